@@ -1,0 +1,6 @@
+pub mod Number
+pub mod Faults
+pub mod Reading
+pub mod Records
+pub mod Cursor
+pub mod Book
