@@ -1,3 +1,5 @@
 pub mod NumberRead
 pub mod NumberWritten
+pub mod Readings
 pub mod RecordsRead
+pub mod BookRead

@@ -14,6 +14,7 @@ use Rattle.books.specs.declared.reader.Reader.{Reader}
 use Rattle.books.specs.Cursor.{Reads, valueOf, cursorAfter}
 use Rattle.books.specs.Faults.{faultPlace}
 use Rattle.books.specs.Reading.{andThen}
+use Rattle.books.proofs.Readings.{ok-then, err-then, at-fault}
 use Rattle.books.specs.Records.{recordAt, recordsAt, passed, filled}
 
 abbrev Read : Type 0
@@ -31,17 +32,6 @@ behind-more : (done : List Line) (l : Line) (r : Read)
     → behind done (andThen r (λ rest. Ok (l ∷ rest .0, rest .1))) ≡ behind (done ++ l ∷ []) r
 behind-more done l (Ok x) = ap (λ (ls : List Line). Ok (ls, x .1)) (sym (append-assoc done (l ∷ []) (x .0)))
 behind-more done l (Err e) = refl
-
-ok-then : {A B : Type 0} (r : Result (A × ℕ) RecordFault) (v : A) (q : ℕ) (f : A × ℕ → Result B RecordFault)
-    → Ok v ≡ valueOf r → q ≡ cursorAfter faultPlace r → andThen r f ≡ f (v, q)
-ok-then (Ok x) v q f a b =
-    let p : x .0 ≡ v = cc in let s : x .1 ≡ q = sym b in let e : x ≡ (v, q) = λ i. (p i, s i) in ap f e
-ok-then (Err e) v q f a b = let z : _≡_ {A = ℕ} 0 1 = cc in absurd (omega arith)
-
-err-then : {A B : Type 0} (r : Result (A × ℕ) RecordFault) (e : RecordFault) (f : A × ℕ → Result B RecordFault)
-    → Err e ≡ valueOf r → andThen r f ≡ Err e
-err-then (Ok x) e f a = let z : _≡_ {A = ℕ} 0 1 = cc in absurd (omega arith)
-err-then (Err d) e f a = cc
 
 -- At line k, with the cursor at `at`, the records of `done` are read, and what is left is to be read behind them.
 pub record Progress (count stations : ℕ) (book : List ℕ) (start k at : ℕ) (done : List Line) : Type 0 where
@@ -65,7 +55,7 @@ module _ (count stations : ℕ) (book : List ℕ) (start k at : ℕ) (done : Lis
   more l q h v m = record {
     many = length-push done l ∙ ap (λ n. n + 1) (p .many);
     rest =
-        p .rest ∙ ap (behind done) (next h ∙ ok-then (recordAt k stations book at) l q _ v m)
+        p .rest ∙ ap (behind done) (next h ∙ ok-then faultPlace (recordAt k stations book at) l q _ v m)
         ∙ behind-more done l (recordsAt (count - (k + 1)) (k + 1) stations book q);
   }
 
@@ -80,11 +70,6 @@ module _ (count stations : ℕ) (book : List ℕ) (start k at : ℕ) (done : Lis
       let e : count - k ≡ 0 = omega arith in
       p .rest ∙ ap (λ m. behind done (recordsAt m k stations book at)) e
       ∙ ap (λ (ls : List Line). Ok (ls, at)) (append-nil done)
-
-at-fault : {A : Type 0} (r : Result (A × ℕ) RecordFault) (e : RecordFault)
-    → Err e ≡ valueOf r → cursorAfter faultPlace r ≡ faultPlace e
-at-fault (Ok x) e a = let z : _≡_ {A = ℕ} 0 1 = cc in absurd (omega arith)
-at-fault (Err d) e a = cc
 
 -- The same of a reader that was lent `first`, stands as `before` at line k, and as `after` behind the call for its record.
 module _ (count stations k : ℕ) (first before after : Reader) (e : before .book ≡ first .book)
@@ -105,7 +90,7 @@ module _ (count stations k : ℕ) (first before after : Reader) (e : before .boo
           fault count stations (now (first .book)) (first .at) k (before .at) done p f h (r .value ∙ ap (λ b. valueOf (here b)) e) in
       record {
         value = ap (λ x. valueOf (passed x)) (sym all);
-        cursor = r .cursor ∙ at-fault (here (before .book)) f (r .value) ∙ ap (λ x. cursorAfter faultPlace (passed x)) (sym all);
+        cursor = r .cursor ∙ at-fault faultPlace (here (before .book)) f (r .value) ∙ ap (λ x. cursorAfter faultPlace (passed x)) (sym all);
         book = r .book ∙ e;
       }
 

@@ -41,13 +41,18 @@ headAt room book p =
 abbrev pub endAt : List ℕ → ℕ → Result (Unit {0}) BookFault
 endAt book p = cond (ltb p (length book)) (Err (BytesLeft p)) (Ok tt)
 
+-- The net of the records that were read, where nothing is left behind them.
+abbrev pub closedAt : List ℕ → (stations : ℕ) → List Line × ℕ → Result Model BookFault
+closedAt book stations records = andThen (endAt book (records .1)) (λ _. Ok (record { stations = stations; lines = records .0 }))
+
+-- What follows the head: a record for each line, then nothing.
+abbrev pub bodyAt : List ℕ → Head × ℕ → Result Model BookFault
+bodyAt book head =
+    andThen (inside Record (recordsAt (head .0 .lines) 0 (head .0 .stations) book (head .1))) (closedAt book (head .0 .stations))
+
 -- The net that a run of bytes is read as, into a table with room for so many records.
 unfoldable pub reading : (room : ℕ) → List ℕ → Result Model BookFault
-reading room book =
-    andThen (headAt room book 0) (λ head.
-    andThen (inside Record (recordsAt (head .0 .lines) 0 (head .0 .stations) book (head .1))) (λ records.
-    andThen (endAt book (records .1)) (λ _.
-    Ok (record { stations = head .0 .stations; lines = records .0 }))))
+reading room book = andThen (headAt room book 0) (bodyAt book)
 
 -- What a reader of books answers: the counts of the net that was read.
 abbrev pub headOf : Result Model BookFault → Result Head BookFault

@@ -13,4 +13,5 @@ pub use fault::RecordFault;
 pub use head::Head;
 pub use number::NumberError;
 pub use number::read_number;
+pub use read::read_book;
 pub use reader::Reader;

@@ -36,3 +36,19 @@ fn fill_records(reader: &mut Reader, head: Head, records: &mut [Line]) -> Result
     }
     Ok(())
 }
+
+// Reads a book into the first records of the table, and leaves the others; on a refusal the whole
+// table stays as it was. Each field is judged before the next is read.
+pub fn read_book(book: &[u8], records: &mut [Line]) -> Result<Head, BookFault>
+    ensures answer { λ r. ⌜ r ≡ headOf (reading (length (now (records .entry))) (now (book .entry))) ⌝ }
+    ensures table { λ r. ⌜ now (records .exit) ≡ tableAfter (reading (length (now (records .entry))) (now (book .entry))) (now (records .entry)) ⌝ }
+{
+    let mut reader = Reader::new(book);
+    let head = reader.head(records.len())?;
+    let start = reader.at;
+    judge_records(&mut reader, head)?;
+    reader.end()?;
+    reader.at = start;
+    fill_records(&mut reader, head, records)?;
+    Ok(head)
+}
