@@ -3,3 +3,5 @@ pub mod NumberWritten
 pub mod Readings
 pub mod RecordsRead
 pub mod BookRead
+pub mod Joining
+pub mod BookWritten

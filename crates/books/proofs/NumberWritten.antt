@@ -86,3 +86,12 @@ paste-both d l m es fs at p room place a b =
     b ∙ ap (λ x. paste x p fs (length fs)) a ∙ ap (λ q. paste (paste d at es (length es)) q fs (length fs)) place
     ∙ paste-paste d at es fs (length es) (length fs) refl refl (omega arith)
     ∙ ap (paste d at (es ++ fs)) (sym n)
+
+-- a number takes at most five bytes
+groups-most : (m n : ℕ) → length (groups m n) ≤ m + 1
+groups-most zero n = omega arith
+groups-most (suc m) n = let r = groups-most m (n / 128) in grind (arith, tells)
+
+pub encoding-most : (n : ℕ) → length (encoding n) ≤ 5
+unfolding encoding
+encoding-most n = groups-most 4 n

@@ -8,6 +8,8 @@ use Rattle.std.specs.shelf.Lists.{joined}
 use Rattle.std.specs.declared.result.Result.{Result}
 use Rattle.std.specs.declared.result.Result.the-variants.{Ok, Err}
 use Rattle.nets.specs.declared.line.Line.{Line}
+use Rattle.nets.specs.declared.refusal.Refusal.{Refusal}
+use Rattle.nets.specs.declared.refusal.Refusal.the-variants.{OutputShort}
 use Rattle.nets.specs.Model.{Model, maxStations, maxLines}
 use Rattle.books.specs.declared.fault.BookFault.{BookFault}
 use Rattle.books.specs.declared.fault.BookFault.the-variants.{HeadNumber, Edition, HeadLimit, TableShort, Record, BytesLeft}
@@ -65,9 +67,20 @@ tableAfter (Ok m) table = m .lines ++ drop (length (m .lines)) table
 tableAfter (Err e) table = table
 
 -- The numbers of a net's book: the edition, the stations, the lines, then those of each line.
+abbrev pub headNumbers : Model → List ℕ
+headNumbers m = 1 ∷ m .stations ∷ length (m .lines) ∷ []
+
 abbrev pub bookNumbers : Model → List ℕ
-bookNumbers m = 1 ∷ m .stations ∷ length (m .lines) ∷ joined lineNumbers (m .lines)
+bookNumbers m = headNumbers m ++ joined lineNumbers (m .lines)
 
 -- The book of a net.
 unfoldable pub bookOf : Model → List ℕ
 bookOf m = joined encoding (bookNumbers m)
+
+-- What the writing of a book answers: its length, or a refusal where the output is shorter.
+abbrev pub lengthAnswer : (book out : List ℕ) → Result ℕ Refusal
+lengthAnswer book out = cond (leb (length book) (length out)) (Ok (length book)) (Err OutputShort)
+
+-- The output after it: the book, and the bytes beyond it as they were; after a refusal all stay.
+abbrev pub outputAfter : (book out : List ℕ) → List ℕ
+outputAfter book out = cond (leb (length book) (length out)) (book ++ drop (length book) out) out

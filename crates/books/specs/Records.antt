@@ -4,6 +4,7 @@ use mathlib.Core.Bool.{Bool, cond}
 use Prim.Native.Nat.{ℕ, zero, suc, _+_}
 use lib.Dec.{eqb, ltb, leb}
 use lib.ListN.{length, drop}
+use Rattle.std.specs.shelf.Lists.{joined}
 use Rattle.std.specs.declared.result.Result.{Result}
 use Rattle.std.specs.declared.result.Result.the-variants.{Ok, Err}
 use Rattle.nets.specs.declared.line.Line.{Line}
@@ -11,6 +12,7 @@ use Rattle.nets.specs.Model.{maxFee, maxLoss}
 use Rattle.books.specs.declared.fault.RecordError.{RecordError}
 use Rattle.books.specs.declared.fault.RecordError.the-variants.{Number, Station, Limit}
 use Rattle.books.specs.declared.fault.RecordFault.{RecordFault}
+use Rattle.books.specs.Number.{encoding}
 use Rattle.books.specs.Reading.{andThen, inside, fieldAt}
 
 -- A station is a number below the count of stations.
@@ -69,3 +71,7 @@ filled (Err e) table = table
 -- The five numbers of a line.
 abbrev pub lineNumbers : Line → List ℕ
 lineNumbers l = l .from ∷ l .to ∷ l .fee ∷ l .loss ∷ cond (l .«open») 1 0 ∷ []
+
+-- The bytes of a line's record.
+unfoldable pub lineBytes : Line → List ℕ
+lineBytes l = joined encoding (lineNumbers l)

@@ -4,6 +4,7 @@ mod head;
 mod number;
 mod read;
 mod reader;
+mod write;
 
 pub use fault::BookFault;
 pub use fault::Layer;
