@@ -5,3 +5,6 @@ pub mod RecordsRead
 pub mod BookRead
 pub mod Joining
 pub mod BookWritten
+pub mod NumberTrips
+pub mod BookAccepted
+pub mod BookReadBack

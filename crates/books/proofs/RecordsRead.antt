@@ -87,7 +87,7 @@ module _ (count stations k : ℕ) (first before after : Reader) (e : before .boo
       → Reads faultPlace (λ book q. passed (recordsAt count 0 stations book q)) first after (Err f)
   read-fault f r =
       let all : recordsAt count 0 stations (now (first .book)) (first .at) ≡ Err f =
-          fault count stations (now (first .book)) (first .at) k (before .at) done p f h (r .value ∙ ap (λ b. valueOf (here b)) e) in
+      fault count stations (now (first .book)) (first .at) k (before .at) done p f h (r .value ∙ ap (λ b. valueOf (here b)) e) in
       record {
         value = ap (λ x. valueOf (passed x)) (sym all);
         cursor = r .cursor ∙ at-fault faultPlace (here (before .book)) f (r .value) ∙ ap (λ x. cursorAfter faultPlace (passed x)) (sym all);

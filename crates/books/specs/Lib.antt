@@ -4,3 +4,4 @@ pub mod Reading
 pub mod Records
 pub mod Cursor
 pub mod Book
+pub mod OneBook

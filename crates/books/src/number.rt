@@ -17,6 +17,7 @@ pub enum NumberError {
 }
 
 const MAX_BYTES: usize = 5;
+
 const MAX_FIFTH_BYTE: u8 = 15;
 
 // The number at the front of `bytes`, with the count of its bytes.

@@ -1,11 +1,13 @@
 // The book of a net, written to the front of an output.
 ghost use mathlib.Core.Path.{_≡_};
 ghost use Prim.Native.Nat.{_+_, _≤_};
-ghost use lib.ListN.{length};
+ghost use lib.ListN.{length, take};
 ghost use lib.Seq.{paste};
 ghost use Rattle.std.specs.shelf.Lists.{joined};
+ghost use Rattle.std.specs.Vec.{made};
 ghost use Rattle.books.specs.Book.{headNumbers, bookOf, lengthAnswer, outputAfter};
 ghost use Rattle.books.specs.Number.{encoding};
+ghost use Rattle.books.specs.OneBook.{ReadsAs, OneBook};
 ghost use Rattle.books.specs.Records.{lineNumbers, lineBytes};
 use crate::number::number_length;
 use crate::number::write_number;
@@ -101,6 +103,8 @@ fn write_lines<N: Net>(net: &N, out: &mut [u8], at: usize)
 pub fn write_book<N: Net>(net: &N, out: &mut [u8]) -> Result<usize, Refusal>
     ensures answer { λ r. ⌜ r ≡ lengthAnswer (bookOf (N·Net .meant (now (net .entry)))) (now (out .entry)) ⌝ }
     ensures output { λ _. ⌜ now (out .exit) ≡ outputAfter (bookOf (N·Net .meant (now (net .entry)))) (now (out .entry)) ⌝ }
+    ensures back { λ r. ⌜ made r (λ n. ReadsAs (take n (now (out .exit))) (N·Net .meant (now (net .entry)))) ⌝ }
+    ensures one { λ _. ⌜ OneBook (N·Net .meant (now (net .entry))) ⌝ }
 {
     let head = head_numbers(net);
     let length = numbers_length(&head) + lines_length(net);

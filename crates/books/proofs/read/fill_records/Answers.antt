@@ -28,9 +28,11 @@ loop-k-again c =
     let p = c .loop-k .inv .0 .1 in
     let l = c .in-Continue-record .record in
     let h : c .loop-k .k < length (c .args .records .now) = omega (arith, c .pre) in (
-      (_,
-      read-more (c .args .head .lines) (c .args .head .stations) (c .loop-k .k) (c .args .reader .now) (c .loop-k .reader) (c .record .last .self)
-          (c .loop-k .inv .1) done p (c .loop-k-test .taken) l r,
-      ap (λ t. set t (c .loop-k .k) l) (c .loop-k .inv .0 .2) ∙ fill-more done (c .args .records .now) (c .loop-k .k) l (p .many) h),
+      (
+        _,
+        read-more (c .args .head .lines) (c .args .head .stations) (c .loop-k .k) (c .args .reader .now) (c .loop-k .reader) (c .record .last .self)
+            (c .loop-k .inv .1) done p (c .loop-k-test .taken) l r,
+        ap (λ t. set t (c .loop-k .k) l) (c .loop-k .inv .0 .2) ∙ fill-more done (c .args .records .now) (c .loop-k .k) l (p .many) h,
+      ),
       r .book ∙ c .loop-k .inv .1,
     )

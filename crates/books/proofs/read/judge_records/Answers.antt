@@ -17,7 +17,10 @@ returns-in-Break-record c =
 pub loop-k-again : need.loop-k-again
 loop-k-again c =
     let r = c .in-Continue-record .ensures tt in (
-      (_, read-more (c .args .head .lines) (c .args .head .stations) (c .loop-k .k) (c .args .reader .now) (c .loop-k .reader) (c .record .last .self)
-          (c .loop-k .inv .1) (c .loop-k .inv .0 .0) (c .loop-k .inv .0 .1) (c .loop-k-test .taken) _ r),
+      (
+        _,
+        read-more (c .args .head .lines) (c .args .head .stations) (c .loop-k .k) (c .args .reader .now) (c .loop-k .reader) (c .record .last .self)
+            (c .loop-k .inv .1) (c .loop-k .inv .0 .0) (c .loop-k .inv .0 .1) (c .loop-k-test .taken) _ r,
+      ),
       r .book ∙ c .loop-k .inv .1,
     )

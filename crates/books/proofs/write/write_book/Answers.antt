@@ -6,6 +6,7 @@ use lib.Seq.{paste}
 use Rattle.std.specs.shelf.Lists.{joined}
 use Rattle.books.specs.Number.{encoding}
 use Rattle.books.proofs.BookWritten.{head-most, lines-most, output-short, length-answered, lines-room, both-written}
+use Rattle.books.proofs.BookReadBack.{one-book, written-back}
 use Rattle.books.proofs.write.write_book.Needs as need
 
 pub add-length : need.add-length
@@ -20,7 +21,7 @@ returns-then-length-out g c =
     let m = g .N·Net .meant (c .args .net .now) in
     let h = c .numbers-length .ensures ∙ ap (λ t. length (joined encoding t)) (c .head-numbers-head .ensures) in
     let r = output-short m _ (ap₂ (λ x y. x + y) h (c .lines-length .ensures)) (c .args .out .now) (c .if-length-out .taken) in
-    record { answer = r .0; output = r .1 }
+    record { answer = r .0; output = r .1; back = tt; one = one-book m (g .N·Net .sound (c .args .net .now)) }
 
 pub write-lines-requires : need.write-lines-requires
 write-lines-requires g c κs =
@@ -40,4 +41,6 @@ returns g c =
     record {
       answer = length-answered m _ n o (c .if-length-out .left);
       output = both-written m _ n o (c .if-length-out .left) (c .write-numbers-at .result) (c .write-numbers-at .last .out) (c .write-lines .last .out) p a (c .write-lines .ensures);
+      back = written-back m (g .N·Net .sound (c .args .net .now)) _ n o (c .if-length-out .left) _ (both-written m _ n o (c .if-length-out .left) (c .write-numbers-at .result) (c .write-numbers-at .last .out) (c .write-lines .last .out) p a (c .write-lines .ensures));
+      one = one-book m (g .N·Net .sound (c .args .net .now));
     }

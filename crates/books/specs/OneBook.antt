@@ -1,0 +1,27 @@
+-- That every net has just one book: the statements. Assumes nothing.
+use mathlib.Core.Path.{_≡_}
+use mathlib.Core.List.{List}
+use Prim.Native.Nat.{ℕ, _≤_, _<_}
+use lib.ListN.{length}
+use Rattle.std.specs.shelf.Lists.{All}
+use Rattle.std.specs.declared.result.Result.the-variants.{Ok}
+use Rattle.nets.specs.Model.{Model, Sound}
+use Rattle.books.specs.Book.{reading, bookOf}
+
+-- A run of bytes.
+abbrev pub Bytes : List ℕ → Type 0
+Bytes = All (λ b. b < 256)
+
+-- A run of bytes reads as a net, into every table that has room for its lines.
+abbrev pub ReadsAs : List ℕ → Model → Type 0
+ReadsAs bytes m = (room : ℕ) → length (m .lines) ≤ room → reading room bytes ≡ Ok m
+
+-- A net has a book, which reads back as that net, and no other run of bytes reads as it, into any table.
+pub record OneBook (m : Model) : Type 0 where
+  pub bytes : Bytes (bookOf m)
+  pub back : ReadsAs (bookOf m) m
+  pub only : (bytes : List ℕ) (room : ℕ) → Bytes bytes → reading room bytes ≡ Ok m → bytes ≡ bookOf m
+
+-- A run of bytes that is accepted means a net within the limits, and is the book of that net.
+abbrev pub IsBook : (room : ℕ) → List ℕ → Type 0
+IsBook room bytes = (m : Model) → reading room bytes ≡ Ok m → Sound m × (bytes ≡ bookOf m)
