@@ -1,0 +1,5 @@
+pub mod Nth
+pub mod Edits
+pub mod Records
+pub mod Changes
+pub mod Lattices

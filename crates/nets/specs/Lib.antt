@@ -1,3 +1,11 @@
 pub mod Refusals
 pub mod Model
+pub mod LimitTests
 pub mod Edits
+pub mod Only
+pub mod Listed
+pub mod ListedSound
+pub mod Patches
+pub mod PatchesSound
+pub mod Lattice
+pub mod LatticeSound
