@@ -10,9 +10,11 @@ use Rattle.std.specs.shelf.Lists.{All, joined}
 use Rattle.std.specs.declared.result.Result.{Result}
 use Rattle.std.specs.declared.result.Result.the-variants.{Ok, Err}
 use Rattle.std.proofs.shelf.Elements.{all-drop, all-from-getD, all-append}
-use Rattle.std.proofs.shelf.Lists.{drop-drop, drop-all, drop-at, nil-from-length}
+use Rattle.std.proofs.shelf.Lists.{drop-drop, drop-all, take-at}
 use Rattle.std.proofs.shelf.Tests.{ltb-true, ltb-false, leb-true, eqb-true, and-parts, and-from, lt-ltb, le-ltb, le-leb, cond-true, cond-false, cond-both}
 use Rattle.nets.specs.declared.line.Line.{Line}
+use Rattle.nets.specs.Listed.{listed}
+use Rattle.nets.proofs.Records.{listed-sound}
 use Rattle.nets.specs.Model.{Model, Sound, LineLimits, maxStations, maxLines, maxFee, maxLoss}
 use Rattle.books.specs.declared.number.NumberError.{NumberError}
 use Rattle.books.specs.declared.fault.NumberFault.{NumberFault}
@@ -21,9 +23,9 @@ use Rattle.books.specs.declared.fault.BookFault.the-variants.{HeadNumber, Edit
 use Rattle.books.specs.declared.fault.RecordError.the-variants.{Number, Station, Limit}
 use Rattle.books.specs.declared.fault.RecordFault.{RecordFault}
 use Rattle.books.specs.declared.head.Head.{Head}
-use Rattle.books.specs.Book.{editionAt, stationsAt, linesAt, headAt, endAt, closedAt, bodyAt, reading, headNumbers, bookNumbers, bookOf}
+use Rattle.books.specs.Book.{editionAt, stationsAt, linesAt, headAt, endAt, closedAt, bodyAt, reading, headOf, tableAfter, bookOf}
 use Rattle.books.specs.Number.{number, encoding}
-use Rattle.books.specs.OneBook.{Bytes, ReadsAs, OneBook, IsBook}
+use Rattle.books.specs.OneBook.{Bytes, Accepted}
 use Rattle.books.specs.Reading.{andThen, inside, placed, numberAt, fieldAt}
 use Rattle.books.specs.Records.{stationAt, limitedAt, endsAt, termsAt, fieldsAt, inLine, recordAt, recordsAt, lineNumbers}
 use Rattle.books.proofs.BookRead.{count-read}
@@ -166,7 +168,8 @@ module _ (book : List ℕ) (bytes : Bytes book) where
       past true s q = let z : _≡_ {A = ℕ} 0 1 = cc in absurd (omega arith)
       past false s q = drop-all p book (ltb-false p (length book) s)
 
-  pub is-book : (room : ℕ) → IsBook room book
+  -- a run of bytes that is accepted means a net within the limits, and is the book of that net
+  pub is-book : (room : ℕ) (m : Model) → reading room book ≡ Ok m → Sound m × (book ≡ bookOf m)
   unfolding reading bookOf
   is-book room m e =
       then-ok (headAt room book 0) (bodyAt book) m e (λ head a b.
@@ -187,3 +190,16 @@ module _ (book : List ℕ) (bytes : Bytes book) where
 
 pub bytes-all : (bs : List ℕ) → ((i : ℕ) → getD bs i 0 < 256) → Bytes bs
 bytes-all bs h = all-from-getD (λ b. b < 256) bs 0 (λ i _. h i)
+
+-- the list net over the filled table is the net that was read
+pub accepted-table : (room : ℕ) (book : List ℕ) → Bytes book → (m : Model) (head : Head) (table : List Line) → reading room book ≡ Ok m
+    → Ok head ≡ headOf (reading room book) → (after : List Line) → after ≡ tableAfter (reading room book) table → Accepted room book head after
+accepted-table room book bytes m head table e h after t =
+    let b = is-book book bytes room m e in
+    let counts : head ≡ record { stations = m .stations; lines = length (m .lines) } = ok-same (h ∙ ap headOf e) in
+    let front : take (head .lines) after ≡ m .lines =
+    ap (λ (x : Head). take (x .lines) after) counts ∙ ap (take (length (m .lines))) (t ∙ ap (λ r. tableAfter r table) e)
+    ∙ take-at (m .lines) (drop (length (m .lines)) table) (length (m .lines)) refl in
+    let same : listed (head .stations) (take (head .lines) after) ≡ m =
+    ap (λ (x : Head). listed (x .stations) (take (head .lines) after)) counts ∙ ap (listed (m .stations)) front ∙ listed-sound (m .stations) (m .lines) (b .0) in
+    record { net = e ∙ ap Ok (sym same); again = ap bookOf same ∙ sym (b .1) }

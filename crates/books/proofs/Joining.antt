@@ -1,7 +1,7 @@
 -- Parts of bytes one behind another, as a loop over the items writes or counts them. Assumes nothing.
 use mathlib.Core.Path.{_≡_, refl, sym, ap, _∙_}
 use mathlib.Core.List.{List, [], _∷_, _++_, append-assoc, append-nil}
-use Prim.Native.Nat.{ℕ, zero, suc, _+_, _*_, _≤_, _<_}
+use Prim.Native.Nat.{ℕ, _+_, _*_, _≤_, _<_}
 use native.Mathlib.Omega.{arith}
 use lib.ListN.{length, length-append, take, drop, getD, take-append-drop}
 use lib.Seq.{paste}
@@ -10,18 +10,15 @@ use Rattle.std.specs.shelf.Maps.{nth}
 use Rattle.std.specs.declared.option.Option.the-variants.{Some, None}
 use Rattle.std.proofs.shelf.Lists.{take-more, take-all}
 use Rattle.std.proofs.shelf.Edits.{paste-none, length-paste}
+use Rattle.nets.proofs.Nth.{inside-from-some, value-from-some, past-from-none}
 use Rattle.books.proofs.NumberWritten.{paste-both}
 
 -- what a look at place k of a list tells
 pub nth-inside : {X : Type 0} (xs : List X) (k : ℕ) (x : X) → Some x ≡ nth xs k → (k < length xs) × (x ≡ getD xs k x)
-nth-inside [] k x e = let z : _≡_ {A = ℕ} 0 1 = cc in absurd (omega arith)
-nth-inside (y ∷ xs) zero x e = (omega arith, cc)
-nth-inside (y ∷ xs) (suc k) x e = let r = nth-inside xs k x e in (omega arith, r .1)
+nth-inside xs k x e = (inside-from-some xs k x (sym e), value-from-some xs k x (sym e))
 
 pub nth-outside : {X : Type 0} (xs : List X) (k : ℕ) → None ≡ nth xs k → length xs ≤ k
-nth-outside [] k e = omega arith
-nth-outside (y ∷ xs) zero e = let z : _≡_ {A = ℕ} 0 1 = cc in absurd (omega arith)
-nth-outside (y ∷ xs) (suc k) e = let r = nth-outside xs k e in omega arith
+nth-outside xs k e = past-from-none xs k (sym e)
 
 module _ {X : Type 0} (f : X → List ℕ) where
   pub joined-append : (xs ys : List X) → joined f (xs ++ ys) ≡ joined f xs ++ joined f ys

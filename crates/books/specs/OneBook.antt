@@ -2,10 +2,13 @@
 use mathlib.Core.Path.{_≡_}
 use mathlib.Core.List.{List}
 use Prim.Native.Nat.{ℕ, _≤_, _<_}
-use lib.ListN.{length}
+use lib.ListN.{length, take}
 use Rattle.std.specs.shelf.Lists.{All}
 use Rattle.std.specs.declared.result.Result.the-variants.{Ok}
+use Rattle.nets.specs.declared.line.Line.{Line}
+use Rattle.nets.specs.Listed.{listed}
 use Rattle.nets.specs.Model.{Model, Sound}
+use Rattle.books.specs.declared.head.Head.{Head}
 use Rattle.books.specs.Book.{reading, bookOf}
 
 -- A run of bytes.
@@ -22,6 +25,8 @@ pub record OneBook (m : Model) : Type 0 where
   pub back : ReadsAs (bookOf m) m
   pub only : (bytes : List ℕ) (room : ℕ) → Bytes bytes → reading room bytes ≡ Ok m → bytes ≡ bookOf m
 
--- A run of bytes that is accepted means a net within the limits, and is the book of that net.
-abbrev pub IsBook : (room : ℕ) → List ℕ → Type 0
-IsBook room bytes = (m : Model) → reading room bytes ≡ Ok m → Sound m × (bytes ≡ bookOf m)
+-- What a reader of books has after a book was accepted: the list net over the records that were filled is the net that was read,
+-- and the book of that net is those same bytes.
+pub record Accepted (room : ℕ) (book : List ℕ) (head : Head) (table : List Line) : Type 0 where
+  pub net : reading room book ≡ Ok (listed (head .stations) (take (head .lines) table))
+  pub again : bookOf (listed (head .stations) (take (head .lines) table)) ≡ book

@@ -6,7 +6,7 @@ ghost use Rattle.std.specs.Vec.{made};
 ghost use Rattle.books.specs.Book.{reading, headOf, tableAfter};
 ghost use Rattle.books.specs.Cursor.{Reads};
 ghost use Rattle.books.specs.Faults.{faultPlace};
-ghost use Rattle.books.specs.OneBook.{IsBook};
+ghost use Rattle.books.specs.OneBook.{Accepted};
 ghost use Rattle.books.specs.Records.{recordsAt, passed, filled};
 use crate::fault::BookFault;
 use crate::fault::BookFaultFromRecord as _;
@@ -43,7 +43,7 @@ fn fill_records(reader: &mut Reader, head: Head, records: &mut [Line]) -> Result
 pub fn read_book(book: &[u8], records: &mut [Line]) -> Result<Head, BookFault>
     ensures answer { λ r. ⌜ r ≡ headOf (reading (length (now (records .entry))) (now (book .entry))) ⌝ }
     ensures table { λ r. ⌜ now (records .exit) ≡ tableAfter (reading (length (now (records .entry))) (now (book .entry))) (now (records .entry)) ⌝ }
-    ensures book { λ r. ⌜ IsBook (length (now (records .entry))) (now (book .entry)) ⌝ }
+    ensures accepted { λ r. ⌜ made r (λ head. Accepted (length (now (records .entry))) (now (book .entry)) head (now (records .exit))) ⌝ }
 {
     let mut reader = Reader::new(book);
     let head = reader.head(records.len())?;

@@ -3,7 +3,7 @@ use mathlib.Core.Path.{_≡_, ap, _∙_}
 use mathlib.Core.List.{List, [], _∷_, map}
 use Prim.Native.Nat.{ℕ, zero, suc, _≤_, _<_}
 use native.Mathlib.Omega.{arith}
-use lib.ListN.{length}
+use lib.ListN.{length, getD}
 use Rattle.std.specs.Iters.{counting}
 use Rattle.std.specs.shelf.Maps.{nth}
 use Rattle.std.specs.shelf.Lists.{All}
@@ -20,6 +20,11 @@ pub inside-from-some : {X : Type 0} (xs : List X) (k : ℕ) (x : X) → nth xs k
 inside-from-some [] k x e = let z : _≡_ {A = ℕ} 0 1 = cc in omega arith
 inside-from-some (y ∷ xs) zero x e = omega arith
 inside-from-some (y ∷ xs) (suc k) x e = let h = inside-from-some xs k x e in omega arith
+
+pub value-from-some : {X : Type 0} (xs : List X) (k : ℕ) (x : X) → nth xs k ≡ Some x → x ≡ getD xs k x
+value-from-some [] k x e = let z : _≡_ {A = ℕ} 0 1 = cc in absurd (omega arith)
+value-from-some (y ∷ xs) zero x e = cc
+value-from-some (y ∷ xs) (suc k) x e = value-from-some xs k x e
 
 pub all-nth : {X : Type 0} (P : X → Type 0) (xs : List X) (k : ℕ) (x : X) → All P xs → nth xs k ≡ Some x → P x
 all-nth P [] k x a e = let z : _≡_ {A = ℕ} 0 1 = cc in absurd (omega arith)
