@@ -23,7 +23,7 @@ use Rattle.books.specs.declared.fault.BookFault.the-variants.{HeadNumber, Edit
 use Rattle.books.specs.declared.fault.RecordError.the-variants.{Number, Station, Limit}
 use Rattle.books.specs.declared.fault.RecordFault.{RecordFault}
 use Rattle.books.specs.declared.head.Head.{Head}
-use Rattle.books.specs.Book.{editionAt, stationsAt, linesAt, headAt, endAt, closedAt, bodyAt, reading, headOf, tableAfter, bookOf}
+use Rattle.books.specs.Book.{editionAt, stationsAt, linesAt, headAt, endAt, closedAt, bodyAt, reading, tableAfter, Judged, bookOf}
 use Rattle.books.specs.Number.{number, encoding}
 use Rattle.books.specs.OneBook.{Bytes, Accepted}
 use Rattle.books.specs.Reading.{andThen, inside, placed, numberAt, fieldAt}
@@ -191,15 +191,18 @@ module _ (book : List ℕ) (bytes : Bytes book) where
 pub bytes-all : (bs : List ℕ) → ((i : ℕ) → getD bs i 0 < 256) → Bytes bs
 bytes-all bs h = all-from-getD (λ b. b < 256) bs 0 (λ i _. h i)
 
--- the list net over the filled table is the net that was read
-pub accepted-table : (room : ℕ) (book : List ℕ) → Bytes book → (m : Model) (head : Head) (table : List Line) → reading room book ≡ Ok m
-    → Ok head ≡ headOf (reading room book) → (after : List Line) → after ≡ tableAfter (reading room book) table → Accepted room book head after
-accepted-table room book bytes m head table e h after t =
-    let b = is-book book bytes room m e in
-    let counts : head ≡ record { stations = m .stations; lines = length (m .lines) } = ok-same (h ∙ ap headOf e) in
-    let front : take (head .lines) after ≡ m .lines =
-    ap (λ (x : Head). take (x .lines) after) counts ∙ ap (take (length (m .lines))) (t ∙ ap (λ r. tableAfter r table) e)
-    ∙ take-at (m .lines) (drop (length (m .lines)) table) (length (m .lines)) refl in
-    let same : listed (head .stations) (take (head .lines) after) ≡ m =
-    ap (λ (x : Head). listed (x .stations) (take (head .lines) after)) counts ∙ ap (listed (m .stations)) front ∙ listed-sound (m .stations) (m .lines) (b .0) in
-    record { net = e ∙ ap Ok (sym same); again = ap bookOf same ∙ sym (b .1) }
+-- a table that was filled with the records of a book that was judged
+module _ (room : ℕ) (book : List ℕ) (bytes : Bytes book) (head : Head) (start : ℕ) (j : Judged room book head start) (table after : List Line)
+    (filled : after ≡ j .lines ++ drop (head .lines) table) where
+  pub filled-table : after ≡ tableAfter (reading room book) table
+  filled-table =
+      filled ∙ ap (λ n. j .lines ++ drop n table) (sym (j .count)) ∙ ap (λ r. tableAfter r table) (sym (j .net))
+
+  -- the list net over the filled table is the net that was read
+  pub filled-accepted : Accepted room book head after
+  filled-accepted =
+      let m : Model = record { stations = head .stations; lines = j .lines } in
+      let b = is-book book bytes room m (j .net) in
+      let front : take (head .lines) after ≡ j .lines = ap (take (head .lines)) filled ∙ take-at (j .lines) (drop (head .lines) table) (head .lines) (j .count) in
+      let same : listed (head .stations) (take (head .lines) after) ≡ m = ap (listed (head .stations)) front ∙ listed-sound (head .stations) (j .lines) (b .0) in
+      record { net = j .net ∙ ap Ok (sym same); again = ap bookOf same ∙ sym (b .1) }

@@ -16,11 +16,11 @@ use Rattle.books.specs.declared.reader.Reader.{Reader}
 use Rattle.books.specs.declared.fault.BookFault.{BookFault}
 use Rattle.books.specs.declared.fault.BookFault.the-variants.{HeadNumber, HeadLimit, TableShort, Record}
 use Rattle.books.specs.declared.fault.RecordFault.{RecordFault}
-use Rattle.books.specs.Book.{editionAt, stationsAt, linesAt, headAt, endAt, closedAt, bodyAt, reading, headOf, tableAfter}
+use Rattle.books.specs.Book.{editionAt, stationsAt, linesAt, headAt, endAt, closedAt, bodyAt, reading, Judged}
 use Rattle.books.specs.Cursor.{Reads, valueOf, cursorAfter}
 use Rattle.books.specs.Faults.{placeOf, faultPlace}
 use Rattle.books.specs.Reading.{andThen, inside, fieldAt}
-use Rattle.books.specs.Records.{recordAt, recordsAt, passed, filled}
+use Rattle.books.specs.Records.{recordAt, recordsAt, passed}
 use Rattle.books.proofs.Readings.{Told, told, ok-same, is-ok, err-then, then-ok, guard-ok}
 
 -- as many records are read as there should be
@@ -47,7 +47,7 @@ lines-room room book p x e =
     then-ok (fieldAt HeadNumber (λ n. leb n maxLines) HeadLimit book p) _ x e (λ y _ g.
     let t = guard-ok (leb (y .0) room) y x (TableShort p) g in omega (arith, leb-true (y .0) room (t .0), ap (λ z. z .0) (t .1)))
 
-pub head-room : (room : ℕ) (book : List ℕ) (p : ℕ) (h : Head) (q : ℕ) → headAt room book p ≡ Ok (h, q) → h .lines ≤ room
+head-room : (room : ℕ) (book : List ℕ) (p : ℕ) (h : Head) (q : ℕ) → headAt room book p ≡ Ok (h, q) → h .lines ≤ room
 unfolding headAt
 head-room room book p h q e =
     then-ok (editionAt book p) _ (h, q) e (λ edition _ f.
@@ -73,7 +73,7 @@ module _ (room : ℕ) (book : List ℕ) (first behind : Reader) (same : now (fir
     book-behind : now (behind .book) ≡ book
     book-behind = ap now (r .book) ∙ same
 
-    pub room-of-head : h .lines ≤ room
+    room-of-head : h .lines ≤ room
     room-of-head = head-room room book 0 h (behind .at) head-is
 
     -- what is left to read behind the head
@@ -93,7 +93,7 @@ module _ (room : ℕ) (book : List ℕ) (first behind : Reader) (same : now (fir
           after-head ∙ ap (λ x. andThen (inside Record x) (closedAt book (h .stations))) (passed-err records e (passing (Err e) p .value))
 
       module _ (u : Unit {0}) (p : Passes (Ok u)) where
-        pub lines-read : (ls : List Line) × (records ≡ Ok (ls, last .at))
+        lines-read : (ls : List Line) × (records ≡ Ok (ls, last .at))
         lines-read = let t = passing (Ok u) p in passed-ok records u (last .at) (t .value) (t .cursor)
 
         after-records : (ls : List Line) → records ≡ Ok (ls, last .at) → reading room book ≡ closedAt book (h .stations) (ls, last .at)
@@ -110,17 +110,12 @@ module _ (room : ℕ) (book : List ℕ) (first behind : Reader) (same : now (fir
         pub end-fault : (e : BookFault) → Err e ≡ endAt (now (last .book)) (last .at) → reading room book ≡ Err e
         end-fault e a = end-is (Err e) a
 
-        module _ (t : Unit {0}) (a : Ok t ≡ endAt (now (last .book)) (last .at)) where
-          pub accepted : reading room book ≡ Ok (record { stations = h .stations; lines = lines-read .0 })
-          accepted = end-is (Ok t) a
-
-          pub head-answered : Ok h ≡ headOf (reading room book)
-          head-answered =
-              ap (λ (n : ℕ). Ok (record { stations = h .stations; lines = n }))
-              (sym (count-read (h .lines) 0 (h .stations) book (behind .at) (lines-read .0) (last .at) (lines-read .1)))
-              ∙ ap headOf (sym accepted)
-
-          pub table-filled : (table : List Line) → filled (recordsAt (h .lines) 0 (h .stations) (now (last .book)) (behind .at)) table ≡ tableAfter (reading room book) table
-          table-filled table =
-              ap (λ b. filled (recordsAt (h .lines) 0 (h .stations) b (behind .at)) table) (passing (Ok u) p .book)
-              ∙ ap (λ x. filled x table) (lines-read .1) ∙ ap (λ x. tableAfter x table) (sym accepted)
+        pub judged : (t : Unit {0}) → Ok t ≡ endAt (now (last .book)) (last .at) → Judged room book h (behind .at)
+        judged t a = record {
+          lines = lines-read .0;
+          count = count-read (h .lines) 0 (h .stations) book (behind .at) (lines-read .0) (last .at) (lines-read .1);
+          net = end-is (Ok t) a;
+          end = last .at;
+          records = lines-read .1;
+          fits = room-of-head;
+        }

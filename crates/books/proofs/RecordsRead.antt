@@ -15,7 +15,7 @@ use Rattle.books.specs.Cursor.{Reads, valueOf, cursorAfter}
 use Rattle.books.specs.Faults.{faultPlace}
 use Rattle.books.specs.Reading.{andThen}
 use Rattle.books.proofs.Readings.{ok-then, err-then, at-fault}
-use Rattle.books.specs.Records.{recordAt, recordsAt, passed, filled}
+use Rattle.books.specs.Records.{recordAt, recordsAt, passed}
 
 abbrev Read : Type 0
 Read = Result (List Line × ℕ) RecordFault
@@ -83,11 +83,14 @@ module _ (count stations k : ℕ) (first before after : Reader) (e : before .boo
       more count stations (now (first .book)) (first .at) k (before .at) done p l (after .at) h
       (r .value ∙ ap (λ b. valueOf (here b)) e) (r .cursor ∙ ap (λ b. cursorAfter faultPlace (here b)) e)
 
+  pub fault-read : (f : RecordFault) → Reads faultPlace (recordAt k stations) before after (Err f)
+      → recordsAt count 0 stations (now (first .book)) (first .at) ≡ Err f
+  fault-read f r = fault count stations (now (first .book)) (first .at) k (before .at) done p f h (r .value ∙ ap (λ b. valueOf (here b)) e)
+
   pub read-fault : (f : RecordFault) → Reads faultPlace (recordAt k stations) before after (Err f)
       → Reads faultPlace (λ book q. passed (recordsAt count 0 stations book q)) first after (Err f)
   read-fault f r =
-      let all : recordsAt count 0 stations (now (first .book)) (first .at) ≡ Err f =
-      fault count stations (now (first .book)) (first .at) k (before .at) done p f h (r .value ∙ ap (λ b. valueOf (here b)) e) in
+      let all = fault-read f r in
       record {
         value = ap (λ x. valueOf (passed x)) (sym all);
         cursor = r .cursor ∙ at-fault faultPlace (here (before .book)) f (r .value) ∙ ap (λ x. cursorAfter faultPlace (passed x)) (sym all);

@@ -1,9 +1,8 @@
 -- A line's record in a book: its five numbers, in the order in which they are read and judged. Assumes nothing.
-use mathlib.Core.List.{List, [], _∷_, _++_}
+use mathlib.Core.List.{List, [], _∷_}
 use mathlib.Core.Bool.{Bool, cond}
 use Prim.Native.Nat.{ℕ, zero, suc, _+_}
 use lib.Dec.{eqb, ltb, leb}
-use lib.ListN.{length, drop}
 use Rattle.std.specs.shelf.Lists.{joined}
 use Rattle.std.specs.declared.result.Result.{Result}
 use Rattle.std.specs.declared.result.Result.the-variants.{Ok, Err}
@@ -62,11 +61,6 @@ recordsAt (suc left) k stations book p =
 abbrev pub passed : Result (List Line × ℕ) RecordFault → Result (Unit {0} × ℕ) RecordFault
 passed (Ok x) = Ok (tt, x .1)
 passed (Err e) = Err e
-
--- A table whose first records are those that were read.
-abbrev pub filled : Result (List Line × ℕ) RecordFault → List Line → List Line
-filled (Ok x) table = x .0 ++ drop (length (x .0)) table
-filled (Err e) table = table
 
 -- The five numbers of a line.
 abbrev pub lineNumbers : Line → List ℕ
