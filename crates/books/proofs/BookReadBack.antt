@@ -20,13 +20,12 @@ use Rattle.books.specs.declared.fault.BookFault.the-variants.{HeadNumber, Edit
 use Rattle.books.specs.declared.fault.RecordError.the-variants.{Number, Station, Limit}
 use Rattle.books.specs.declared.fault.RecordFault.{RecordFault}
 use Rattle.books.specs.declared.head.Head.{Head}
-use Rattle.books.specs.Book.{editionAt, stationsAt, linesAt, headAt, endAt, closedAt, bodyAt, reading, headNumbers, bookNumbers, bookOf, outputAfter}
+use Rattle.books.specs.Book.{editionAt, stationsAt, linesAt, headAt, endAt, closedAt, bodyAt, reading, bookNumbers, bookOf}
 use Rattle.books.specs.Number.{number, groups, encoding}
 use Rattle.books.specs.OneBook.{Bytes, ReadsAs, OneBook}
 use Rattle.books.specs.Reading.{andThen, inside, placed, numberAt, fieldAt}
-use Rattle.books.specs.Records.{stationAt, limitedAt, endsAt, termsAt, fieldsAt, inLine, recordAt, recordsAt, lineNumbers, lineBytes}
+use Rattle.books.specs.Records.{stationAt, limitedAt, endsAt, termsAt, fieldsAt, inLine, recordAt, recordsAt, lineNumbers}
 use Rattle.books.proofs.BookAccepted.{is-book}
-use Rattle.books.proofs.BookWritten.{book-length}
 use Rattle.books.proofs.NumberTrips.{read-of-written}
 use Rattle.books.proofs.NumberWritten.{limit}
 
@@ -169,11 +168,8 @@ one-book m s = record {
   only = λ bs room h e. is-book bs h room m e .1;
 }
 
--- the output holds the book in front, so its front reads back
-pub written-back : (m : Model) → Sound m → (n : ℕ) → n ≡ length (joined encoding (headNumbers m)) + length (joined lineBytes (m .lines)) → (out : List ℕ) → n ≤ length out
-    → (end : List ℕ) → end ≡ outputAfter (bookOf m) out → ReadsAs (take n end) m
-written-back m s n is out room end e =
-    let l = book-length m n is out in
-    let b = le-leb (length (bookOf m)) (length out) (omega arith) in
-    let front : take n end ≡ bookOf m = ap (take n) (e ∙ cond-true _ _ _ b) ∙ take-at (bookOf m) (drop (length (bookOf m)) out) n (sym l) in
-    λ k fits. ap (reading k) front ∙ reads-back m s k fits
+-- an output that holds the book in front, whose front reads back
+pub written-back : (m : Model) → Sound m → (end rest : List ℕ) → end ≡ bookOf m ++ rest → ReadsAs (take (length (bookOf m)) end) m
+written-back m s end rest e room fits =
+    ap (λ (l : List ℕ). reading room (take (length (bookOf m)) l)) e
+    ∙ ap (reading room) (take-at (bookOf m) rest (length (bookOf m)) refl) ∙ reads-back m s room fits

@@ -1,7 +1,8 @@
 // The book of a net, written to the front of an output.
 ghost use mathlib.Core.Path.{_≡_};
+ghost use mathlib.Core.List.{_++_};
 ghost use Prim.Native.Nat.{_+_, _≤_};
-ghost use lib.ListN.{length, take};
+ghost use lib.ListN.{length, take, drop};
 ghost use lib.Seq.{paste};
 ghost use Rattle.std.specs.shelf.Lists.{joined};
 ghost use Rattle.std.specs.Vec.{made};
@@ -99,6 +100,24 @@ fn write_lines<N: Net>(net: &N, out: &mut [u8], at: usize)
     }
 }
 
+// How many bytes the book of a net takes.
+fn book_length<N: Net>(net: &N) -> usize
+    ensures length { λ r. ⌜ r ≡ length (bookOf (N·Net .meant (now (net .entry)))) ⌝ }
+    ensures one { λ _. ⌜ OneBook (N·Net .meant (now (net .entry))) ⌝ }
+{
+    numbers_length(&head_numbers(net)) + lines_length(net)
+}
+
+// Writes the book of a net to the front of an output with room for it.
+fn write_parts<N: Net>(net: &N, out: &mut [u8])
+    requires { ⌜ length (bookOf (N·Net .meant (now net))) ≤ length (now out) ⌝ }
+    ensures output { λ _. ⌜ now (out .exit) ≡ bookOf (N·Net .meant (now (net .entry))) ++ drop (length (bookOf (N·Net .meant (now (net .entry))))) (now (out .entry)) ⌝ }
+    ensures back { λ _. ⌜ ReadsAs (take (length (bookOf (N·Net .meant (now (net .entry))))) (now (out .exit))) (N·Net .meant (now (net .entry))) ⌝ }
+{
+    let at = write_numbers(out, 0, &head_numbers(net));
+    write_lines(net, out, at);
+}
+
 // Writes the book of a net to the front of the output, leaves the bytes beyond it, and answers its length.
 pub fn write_book<N: Net>(net: &N, out: &mut [u8]) -> Result<usize, Refusal>
     ensures answer { λ r. ⌜ r ≡ lengthAnswer (bookOf (N·Net .meant (now (net .entry)))) (now (out .entry)) ⌝ }
@@ -106,12 +125,10 @@ pub fn write_book<N: Net>(net: &N, out: &mut [u8]) -> Result<usize, Refusal>
     ensures back { λ r. ⌜ made r (λ n. ReadsAs (take n (now (out .exit))) (N·Net .meant (now (net .entry)))) ⌝ }
     ensures one { λ _. ⌜ OneBook (N·Net .meant (now (net .entry))) ⌝ }
 {
-    let head = head_numbers(net);
-    let length = numbers_length(&head) + lines_length(net);
+    let length = book_length(net);
     if length > out.len() {
         return Err(Refusal::OutputShort);
     }
-    let at = write_numbers(out, 0, &head);
-    write_lines(net, out, at);
+    write_parts(net, out);
     Ok(length)
 }

@@ -1,7 +1,9 @@
 ghost use mathlib.Core.Path.{_≡_};
+ghost use Prim.Native.Nat.{min};
+ghost use lib.ListN.{length};
 ghost use denote.Ref.{now, name};
 ghost use Rattle.std.specs.declared.result.Result.the-variants.{Ok};
-ghost use Rattle.nets.specs.Model.{Sound};
+ghost use Rattle.nets.specs.Model.{maxLines, Sound};
 ghost use Rattle.nets.specs.Edits.{withPrice, withOpen};
 ghost use Rattle.nets.specs.Only.{OnlyRecord};
 ghost use Rattle.nets.specs.Listed.{listed, seen, asGiven, allFit, netFits, judged};
@@ -73,6 +75,13 @@ fn all_fit(stations: usize, records: &[Line]) -> bool
     true
 }
 
+// How many of the records a net reads.
+fn read_count(records: &[Line]) -> usize
+    ensures { λ r. ⌜ r ≡ min (length (now (records .entry))) maxLines ⌝ }
+{
+    records.len().min(MAX_LINES)
+}
+
 // A record as a net of that many stations reads it.
 fn read(stations: usize, l: Line) -> Line
     ensures { λ r. ⌜ r ≡ seen stations l ⌝ }
@@ -113,7 +122,7 @@ pub impl<'a> Net for ListNet<'a> as ListNetNet {
     }
 
     fn line_count(&self) -> usize {
-        self.records.len().min(MAX_LINES)
+        read_count(self.records)
     }
 
     fn line(&self, k: usize) -> Option<Line> {

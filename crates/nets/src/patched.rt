@@ -110,6 +110,13 @@ impl<N: Net> PatchedNet<N> {
             },
         }
     }
+
+    // How many lines the net beneath has.
+    fn lines_beneath(&self) -> usize
+        ensures { λ r. ⌜ r ≡ length (N·Net .meant (now (self .entry) .net) .lines) ⌝ }
+    {
+        self.net.line_count()
+    }
 }
 
 pub impl<N: Net> Net for PatchedNet<N> as PatchedNetNet {
@@ -122,7 +129,7 @@ pub impl<N: Net> Net for PatchedNet<N> as PatchedNetNet {
     }
 
     fn line_count(&self) -> usize {
-        self.net.line_count()
+        self.lines_beneath()
     }
 
     fn line(&self, k: usize) -> Option<Line> {
@@ -137,7 +144,7 @@ pub impl<N: Net> EditableNet for PatchedNet<N> as PatchedNetEditable {
     ghost only = { OnlyChange };
 
     fn set_price(&mut self, k: usize, fee: u32, loss: u32) -> Result<(), Refusal> {
-        if k >= self.net.line_count() {
+        if k >= self.lines_beneath() {
             return Err(Refusal::NoSuchLine);
         }
         if !price_fits(fee, loss) {
@@ -149,7 +156,7 @@ pub impl<N: Net> EditableNet for PatchedNet<N> as PatchedNetEditable {
     }
 
     fn set_open(&mut self, k: usize, open: bool) -> Result<(), Refusal> {
-        if k >= self.net.line_count() {
+        if k >= self.lines_beneath() {
             return Err(Refusal::NoSuchLine);
         }
         let c = self.table.at(k);

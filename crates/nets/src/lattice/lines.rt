@@ -1,10 +1,10 @@
 ghost use mathlib.Core.Path.{_≡_};
 ghost use mathlib.Core.Bool.{true};
-ghost use Prim.Native.Nat.{_*_, _<_};
+ghost use Prim.Native.Nat.{_*_, _≤_, _<_};
 ghost use Rattle.std.specs.Results.{isOk, errPart};
 ghost use Rattle.std.specs.Vec.{made};
-ghost use Rattle.nets.specs.Model.{Sound};
-ghost use Rattle.nets.specs.Lattice.{sizeFits, latticeFits, latticeRefusal, stationAt, neighbour, lattice};
+ghost use Rattle.nets.specs.Model.{maxStations, Sound};
+ghost use Rattle.nets.specs.Lattice.{directions, sizeFits, latticeFits, latticeRefusal, stationAt, neighbour, lattice};
 ghost use Rattle.nets.specs.LatticeSound.{sound-lattice as soundLattice};
 use crate::lattice::LatticeFees;
 use crate::lattice::LatticeNet;
@@ -31,6 +31,14 @@ fn lattice_fits(rows: usize, columns: usize, fees: LatticeFees, loss: u32) -> bo
     ensures { λ r. ⌜ r ≡ latticeFits rows columns fees loss ⌝ }
 {
     size_fits(rows, columns) & fees.fit() & (loss <= MAX_LOSS)
+}
+
+// How many lines begin at so many stations.
+fn lines_from(stations: usize) -> usize
+    requires { ⌜ stations ≤ maxStations ⌝ }
+    ensures { λ r. ⌜ r ≡ directions * stations ⌝ }
+{
+    DIRECTIONS * stations
 }
 
 impl LatticeNet {
@@ -93,7 +101,7 @@ pub impl Net for LatticeNet as LatticeNetNet {
     }
 
     fn line_count(&self) -> usize {
-        DIRECTIONS * self.stations()
+        lines_from(self.stations())
     }
 
     fn line(&self, k: usize) -> Option<Line> {

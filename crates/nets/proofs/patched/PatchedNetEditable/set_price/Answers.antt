@@ -13,11 +13,11 @@ use Rattle.nets.proofs.Edits.{absent, priced-none}
 use Rattle.nets.proofs.Changes.{patched-rewritten, patch-price, only-none}
 use Rattle.nets.proofs.patched.PatchedNetEditable.set_price.Needs as need
 
-pub returns-then-k-line-count : need.returns-then-k-line-count
-returns-then-k-line-count g c =
+pub returns-then-k-lines-beneath : need.returns-then-k-lines-beneath
+returns-then-k-lines-beneath g c =
     let net = c .args .self .now in
     let m = g .N·Net .meant (net .net) in
-    let e = nth-past (patched (net .table .changes) m .lines) (c .args .k) (omega (arith, length-patched (net .table .changes) (m .lines), c .line-count .ensures)) in
+    let e = nth-past (patched (net .table .changes) m .lines) (c .args .k) (omega (arith, length-patched (net .table .changes) (m .lines), c .lines-beneath .ensures)) in
     record {
       answer = rw (absent (patched (net .table .changes) m) (c .args .k) e);
       after = priced-none (patched (net .table .changes) m) (c .args .k) (c .args .fee) (c .args .loss) e;
@@ -30,7 +30,7 @@ returns-then-not-price-fits g c =
     let net = c .args .self .now in
     let changes = net .table .changes in
     let m = g .N·Net .meant (net .net) in
-    let i : c .args .k < length (m .lines) = omega (arith, c .line-count .ensures) in
+    let i : c .args .k < length (m .lines) = omega (arith, c .lines-beneath .ensures) in
     let p = lt-ltb (c .args .k) (length (patched changes m .lines)) (rw (length-patched changes (m .lines)) i) in
     let b : priceFits (c .args .fee) (c .args .loss) ≡ false = sym (c .price-fits .ensures) ∙ c .if-not-price-fits .taken in
     record { answer = rw (p, b); after = sym (cond-false _ _ _ b); only = only-none (c .args .k) net; refused = λ _. refl }
@@ -41,7 +41,7 @@ returns g c =
     let changes = net .table .changes in
     let m = g .N·Net .meant (net .net) in
     let old = c .at-c .result in
-    let i : c .args .k < length (m .lines) = omega (arith, c .line-count .ensures) in
+    let i : c .args .k < length (m .lines) = omega (arith, c .lines-beneath .ensures) in
     let s = g .N·Net .sound (net .net) .short in
     let p = lt-ltb (c .args .k) (length (patched changes m .lines)) (rw (length-patched changes (m .lines)) i) in
     let b : priceFits (c .args .fee) (c .args .loss) ≡ true = sym (c .price-fits .ensures) ∙ c .if-not-price-fits .left in

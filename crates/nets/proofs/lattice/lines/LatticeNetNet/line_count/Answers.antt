@@ -7,4 +7,4 @@ use Rattle.nets.proofs.lattice.lines.LatticeNetNet.line_count.Needs as need
 pub returns : need.returns
 returns c =
     let n = c .args .self .now in
-    ap (λ stations. directions * stations) (c .stations .ensures) ∙ sym (length-lattice (n .rows) (n .columns) (n .fees) (n .loss))
+    c .lines-from .ensures ∙ ap (λ stations. directions * stations) (c .stations .ensures) ∙ sym (length-lattice (n .rows) (n .columns) (n .fees) (n .loss))
