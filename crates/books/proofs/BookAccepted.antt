@@ -2,35 +2,34 @@
 use mathlib.Core.Path.{_≡_, refl, sym, ap, subst, _∙_}
 use mathlib.Core.Bool.{Bool, true, false, cond, _&&_}
 use mathlib.Core.List.{List, [], _∷_, _++_, append-nil, append-assoc}
-use Prim.Native.Nat.{ℕ, zero, suc, _+_, _-_, _^_, _<_, _≤_}
+use Prim.Native.Nat.{ℕ, zero, suc, _+_, _-_, _<_, _≤_}
 use native.Mathlib.Omega.{arith}
 use lib.Dec.{eqb, ltb, leb}
-use lib.ListN.{length, take, drop, getD, length-drop, take-append-drop}
+use lib.ListN.{length, take, drop, getD, take-append-drop}
 use Rattle.std.specs.shelf.Lists.{All, joined}
 use Rattle.std.specs.declared.result.Result.{Result}
 use Rattle.std.specs.declared.result.Result.the-variants.{Ok, Err}
-use Rattle.std.proofs.shelf.Elements.{all-drop, all-from-getD, all-append}
+use Rattle.std.proofs.shelf.Elements.{all-drop, all-from-getD}
 use Rattle.std.proofs.shelf.Lists.{drop-drop, drop-all, take-at}
-use Rattle.std.proofs.shelf.Tests.{ltb-true, ltb-false, leb-true, eqb-true, and-parts, and-from, lt-ltb, le-ltb, le-leb, cond-true, cond-false, cond-both}
+use Rattle.std.proofs.shelf.Tests.{ltb-true, ltb-false, leb-true, eqb-true, and-parts}
 use Rattle.nets.specs.declared.line.Line.{Line}
 use Rattle.nets.specs.Listed.{listed}
 use Rattle.nets.proofs.Records.{listed-sound}
 use Rattle.nets.specs.Model.{Model, Sound, LineLimits, maxStations, maxLines, maxFee, maxLoss}
 use Rattle.books.specs.declared.number.NumberError.{NumberError}
 use Rattle.books.specs.declared.fault.NumberFault.{NumberFault}
-use Rattle.books.specs.declared.fault.BookFault.{BookFault}
 use Rattle.books.specs.declared.fault.BookFault.the-variants.{HeadNumber, Edition, HeadLimit, TableShort, BytesLeft, Record}
 use Rattle.books.specs.declared.fault.RecordError.the-variants.{Number, Station, Limit}
-use Rattle.books.specs.declared.fault.RecordFault.{RecordFault}
 use Rattle.books.specs.declared.head.Head.{Head}
-use Rattle.books.specs.Book.{editionAt, stationsAt, linesAt, headAt, endAt, closedAt, bodyAt, reading, tableAfter, Judged, bookOf}
+use Rattle.books.specs.Book.{editionAt, stationsAt, linesAt, headAt, endAt, closedAt, bodyAt, reading, tableAfter, bookOf}
 use Rattle.books.specs.Number.{number, encoding}
 use Rattle.books.specs.OneBook.{Bytes, Accepted}
-use Rattle.books.specs.Reading.{andThen, inside, placed, numberAt, fieldAt}
+use Rattle.books.specs.Reading.{inside, placed, numberAt, fieldAt}
+use Rattle.books.specs.Judging.{Judged}
 use Rattle.books.specs.Records.{stationAt, limitedAt, endsAt, termsAt, fieldsAt, inLine, recordAt, recordsAt, lineNumbers}
 use Rattle.books.proofs.BookRead.{count-read}
 use Rattle.books.proofs.Joining.{joined-append}
-use Rattle.books.proofs.NumberTrips.{read-of-written, written-of-read}
+use Rattle.books.proofs.NumberTrips.{written-of-read}
 use Rattle.books.proofs.Readings.{ok-same, then-ok, inside-ok, guard-ok}
 
 -- From place p to place q the book holds these numbers.

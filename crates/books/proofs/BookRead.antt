@@ -1,6 +1,6 @@
 -- The steps of reading a book: where each ends, and what they give together. Assumes nothing.
 use mathlib.Core.Path.{_≡_, refl, sym, ap, _∙_}
-use mathlib.Core.List.{List, [], _∷_}
+use mathlib.Core.List.{List}
 use Prim.Native.Nat.{ℕ, zero, suc, _+_, _≤_}
 use native.Mathlib.Omega.{arith}
 use lib.Dec.{leb}
@@ -16,11 +16,12 @@ use Rattle.books.specs.declared.reader.Reader.{Reader}
 use Rattle.books.specs.declared.fault.BookFault.{BookFault}
 use Rattle.books.specs.declared.fault.BookFault.the-variants.{HeadNumber, HeadLimit, TableShort, Record}
 use Rattle.books.specs.declared.fault.RecordFault.{RecordFault}
-use Rattle.books.specs.Book.{editionAt, stationsAt, linesAt, headAt, endAt, closedAt, bodyAt, reading, Judged}
+use Rattle.books.specs.Book.{editionAt, stationsAt, linesAt, headAt, endAt, closedAt, bodyAt, reading}
 use Rattle.books.specs.Cursor.{Reads, valueOf, cursorAfter}
 use Rattle.books.specs.Faults.{placeOf, faultPlace}
 use Rattle.books.specs.Reading.{andThen, inside, fieldAt}
-use Rattle.books.specs.Records.{recordAt, recordsAt, passed}
+use Rattle.books.specs.Judging.{Judged, passed}
+use Rattle.books.specs.Records.{recordAt, recordsAt}
 use Rattle.books.proofs.Readings.{Told, told, ok-same, is-ok, err-then, then-ok, guard-ok}
 
 -- as many records are read as there should be

@@ -15,11 +15,8 @@ use Rattle.std.proofs.shelf.Tests.{lt-ltb, le-ltb, le-leb, ltb-true, and-from, 
 use Rattle.nets.specs.declared.line.Line.{Line}
 use Rattle.nets.specs.Model.{Model, Sound, LineLimits, maxStations, maxLines, maxFee, maxLoss}
 use Rattle.books.specs.declared.fault.NumberFault.{NumberFault}
-use Rattle.books.specs.declared.fault.BookFault.{BookFault}
 use Rattle.books.specs.declared.fault.BookFault.the-variants.{HeadNumber, Edition, HeadLimit, TableShort, BytesLeft, Record}
 use Rattle.books.specs.declared.fault.RecordError.the-variants.{Number, Station, Limit}
-use Rattle.books.specs.declared.fault.RecordFault.{RecordFault}
-use Rattle.books.specs.declared.head.Head.{Head}
 use Rattle.books.specs.Book.{editionAt, stationsAt, linesAt, headAt, endAt, closedAt, bodyAt, reading, bookNumbers, bookOf}
 use Rattle.books.specs.Number.{number, groups, encoding}
 use Rattle.books.specs.OneBook.{Bytes, ReadsAs, OneBook}

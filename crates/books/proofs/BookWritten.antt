@@ -1,7 +1,7 @@
 -- A net's book as its head and its lines' records, and the output that holds it. Assumes nothing.
 use mathlib.Core.Path.{_≡_, refl, sym, ap, _∙_}
 use mathlib.Core.List.{List, [], _∷_, _++_}
-use Prim.Native.Nat.{ℕ, _+_, _*_, _≤_, _<_}
+use Prim.Native.Nat.{ℕ, _+_, _≤_}
 use native.Mathlib.Nat.{zero-add}
 use native.Mathlib.Omega.{arith}
 use lib.ListN.{length, length-append, drop}
@@ -9,7 +9,7 @@ use lib.Seq.{paste}
 use Rattle.std.specs.shelf.Lists.{joined}
 use Rattle.std.proofs.shelf.Edits.{paste-all}
 use Rattle.nets.specs.declared.line.Line.{Line}
-use Rattle.nets.specs.Model.{Model, Sound, maxLines}
+use Rattle.nets.specs.Model.{Model, Sound}
 use Rattle.books.specs.Book.{headNumbers, bookOf}
 use Rattle.books.specs.Number.{encoding}
 use Rattle.books.specs.Records.{lineNumbers, lineBytes}

@@ -1,23 +1,20 @@
+-- The groups of a number one after another, as the loop that reads it goes. Assumes nothing.
 use mathlib.Core.Path.{_≡_, refl, sym, _∙_}
 use mathlib.Core.List.{List, [], _∷_}
-use mathlib.Core.Bool.{Bool, true, false, cond}
-use Prim.Native.Nat.{ℕ, _+_, _-_, _*_, _^_, _<_, _≤_}
+use Prim.Native.Nat.{ℕ, zero, suc, _+_, _-_, _*_, _^_, _<_, _≤_}
 use native.Mathlib.Omega.{arith}
-use lib.Dec.{eqb, ltb}
 use lib.ListN.{length, drop, getD}
 use lib.Dec.{lit≤}
 use native.Mathlib.Nat.{mul-le-mul-right, pow-suc}
 use native.Mathlib.Numerals.{add-one}
 use mathlib.Core.Logic.{_⊎_, inl, inr}
-use Prim.Native.Nat.{zero, suc}
 use Rattle.std.proofs.shelf.Lists.{at-drop-more, at-drop-all}
 use Rattle.std.proofs.shelf.Ways.{tells}
-use Rattle.std.specs.declared.result.Result.{Result}
 use Rattle.std.specs.declared.result.Result.the-variants.{Ok, Err}
-use Rattle.books.specs.declared.number.NumberError.{NumberError}
 use Rattle.books.specs.declared.number.NumberError.the-variants.{Cut, TooLarge, Padded}
 use Rattle.books.specs.Number.{number, numberFrom}
 
+-- the number, where k groups that stand for `low` are read
 module _ (bs : List ℕ) (k low : ℕ) (inv : number bs ≡ numberFrom k low (drop k bs)) where
   pub at-short : length bs ≤ k → Err Cut ≡ number bs
   at-short h = sym (inv ∙ at-drop-all (numberFrom k low) bs k h)

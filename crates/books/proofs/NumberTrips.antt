@@ -1,15 +1,13 @@
 -- A number that is written and read, and one that is read and written. Assumes nothing.
-use mathlib.Core.Path.{_≡_, refl, sym, ap, _∙_}
+use mathlib.Core.Path.{_≡_}
 use mathlib.Core.List.{List, [], _∷_, _++_}
-use mathlib.Core.Bool.{cond}
-use Prim.Native.Nat.{ℕ, zero, suc, _+_, _-_, _*_, _/_, _%_, _^_, _<_, _≤_}
+use Prim.Native.Nat.{ℕ, _+_, _-_, _^_, _<_}
 use native.Mathlib.Omega.{arith}
 use borrow.Author.Needs.{needs}
-use lib.ListN.{length, take, drop}
-use Rattle.std.specs.shelf.Lists.{All}
+use lib.ListN.{length, take}
 use Rattle.std.specs.declared.result.Result.the-variants.{Ok}
 use Rattle.std.proofs.shelf.Ways.{tells}
-use Rattle.books.specs.Number.{number, groups, encoding}
+use Rattle.books.specs.Number.{number, encoding}
 use Rattle.books.specs.OneBook.{Bytes}
 
 pub read-of-written : (n : ℕ) (rest : List ℕ) → n < 2 ^ 32 → number (encoding n ++ rest) ≡ Ok (n, length (encoding n))

@@ -1,10 +1,10 @@
-use mathlib.Core.Path.{_≡_, refl, sym, ap, subst, _∙_}
+-- The groups of a number one after another, as the loop that writes it goes. Assumes nothing.
+use mathlib.Core.Path.{_≡_, refl, sym, ap, _∙_}
 use mathlib.Core.List.{List, [], _∷_, _++_}
-use mathlib.Core.Bool.{cond}
 use Prim.Native.Nat.{ℕ, zero, suc, _+_, _-_, _*_, _/_, _%_, _^_, _<_, _≤_}
 use native.Mathlib.Omega.{arith}
 use native.Mathlib.Nat.{add-zero}
-use lib.ListN.{length, take, drop, getD, set, length-drop, length-append}
+use lib.ListN.{length, drop, getD, set, length-drop, length-append}
 use lib.Seq.{paste}
 use Rattle.std.proofs.shelf.Lists.{drop-drop, getD-drop}
 use Rattle.std.proofs.shelf.Edits.{paste-more, paste-paste, length-paste}

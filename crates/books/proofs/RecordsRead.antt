@@ -1,12 +1,12 @@
 -- How far a loop over records has come: what it has read, and that the rest of the reading is the whole. Assumes nothing.
 use mathlib.Core.Path.{_≡_, refl, sym, ap, _∙_}
 use mathlib.Core.List.{List, [], _∷_, _++_, append-nil, append-assoc}
-use Prim.Native.Nat.{ℕ, zero, suc, _+_, _-_, _<_, _≤_}
+use Prim.Native.Nat.{ℕ, suc, _+_, _-_, _<_, _≤_}
 use native.Mathlib.Omega.{arith}
-use lib.ListN.{length, length-append, drop, set}
+use lib.ListN.{length, drop, set}
 use Rattle.std.specs.declared.result.Result.{Result}
 use Rattle.std.specs.declared.result.Result.the-variants.{Ok, Err}
-use Rattle.std.proofs.shelf.Lists.{set-append-right, drop-more, length-push, set-at}
+use Rattle.std.proofs.shelf.Lists.{drop-more, length-push, set-at}
 use Rattle.nets.specs.declared.line.Line.{Line}
 use Rattle.books.specs.declared.fault.RecordFault.{RecordFault}
 use denote.Ref.{RefT, now}
@@ -15,7 +15,8 @@ use Rattle.books.specs.Cursor.{Reads, valueOf, cursorAfter}
 use Rattle.books.specs.Faults.{faultPlace}
 use Rattle.books.specs.Reading.{andThen}
 use Rattle.books.proofs.Readings.{ok-then, err-then, at-fault}
-use Rattle.books.specs.Records.{recordAt, recordsAt, passed}
+use Rattle.books.specs.Judging.{passed}
+use Rattle.books.specs.Records.{recordAt, recordsAt}
 
 abbrev Read : Type 0
 Read = Result (List Line × ℕ) RecordFault

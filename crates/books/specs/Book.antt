@@ -1,8 +1,7 @@
 -- The line book: what a run of bytes is read as, and the book of a net. Assumes nothing.
-use mathlib.Core.Path.{_≡_}
 use mathlib.Core.List.{List, [], _∷_, _++_}
 use mathlib.Core.Bool.{cond, _&&_}
-use Prim.Native.Nat.{ℕ, _≤_}
+use Prim.Native.Nat.{ℕ}
 use lib.Dec.{eqb, ltb, leb}
 use lib.ListN.{length, drop}
 use Rattle.std.specs.shelf.Lists.{joined}
@@ -66,15 +65,6 @@ headOf (Err e) = Err e
 abbrev pub tableAfter : Result Model BookFault → List Line → List Line
 tableAfter (Ok m) table = m .lines ++ drop (length (m .lines)) table
 tableAfter (Err e) table = table
-
--- What the judging of a book tells where it is accepted: the net that it is read as, and where that net's records begin.
-pub record Judged (room : ℕ) (book : List ℕ) (head : Head) (start : ℕ) : Type 0 where
-  pub lines : List Line
-  pub count : length lines ≡ head .lines
-  pub net : reading room book ≡ Ok (record { stations = head .stations; lines = lines })
-  pub end : ℕ
-  pub records : recordsAt (head .lines) 0 (head .stations) book start ≡ Ok (lines, end)
-  pub fits : head .lines ≤ room
 
 -- The numbers of a net's book: the edition, the stations, the lines, then those of each line.
 abbrev pub headNumbers : Model → List ℕ

@@ -4,7 +4,6 @@ use Rattle.nets.specs.declared.refusal.Refusal.{Refusal}
 use Rattle.nets.specs.declared.refusal.Refusal.the-variants as refusal
 use Rattle.books.specs.declared.number.NumberError.{NumberError}
 use Rattle.books.specs.declared.number.NumberError.the-variants.{Cut, TooLarge, Padded}
-use Rattle.books.specs.declared.fault.NumberFault.{NumberFault}
 use Rattle.books.specs.declared.fault.RecordError.{RecordError}
 use Rattle.books.specs.declared.fault.RecordError.the-variants.{Number, Station, Limit}
 use Rattle.books.specs.declared.fault.RecordFault.{RecordFault}

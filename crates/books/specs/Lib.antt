@@ -4,4 +4,5 @@ pub mod Reading
 pub mod Records
 pub mod Cursor
 pub mod Book
+pub mod Judging
 pub mod OneBook

@@ -7,7 +7,7 @@ use Rattle.std.specs.shelf.Lists.{All}
 use Rattle.std.specs.declared.result.Result.the-variants.{Ok}
 use Rattle.nets.specs.declared.line.Line.{Line}
 use Rattle.nets.specs.Listed.{listed}
-use Rattle.nets.specs.Model.{Model, Sound}
+use Rattle.nets.specs.Model.{Model}
 use Rattle.books.specs.declared.head.Head.{Head}
 use Rattle.books.specs.Book.{reading, bookOf}
 

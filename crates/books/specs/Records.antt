@@ -1,11 +1,11 @@
 -- A line's record in a book: its five numbers, in the order in which they are read and judged. Assumes nothing.
 use mathlib.Core.List.{List, [], _∷_}
-use mathlib.Core.Bool.{Bool, cond}
+use mathlib.Core.Bool.{cond}
 use Prim.Native.Nat.{ℕ, zero, suc, _+_}
 use lib.Dec.{eqb, ltb, leb}
 use Rattle.std.specs.shelf.Lists.{joined}
 use Rattle.std.specs.declared.result.Result.{Result}
-use Rattle.std.specs.declared.result.Result.the-variants.{Ok, Err}
+use Rattle.std.specs.declared.result.Result.the-variants.{Ok}
 use Rattle.nets.specs.declared.line.Line.{Line}
 use Rattle.nets.specs.Model.{maxFee, maxLoss}
 use Rattle.books.specs.declared.fault.RecordError.{RecordError}
@@ -56,11 +56,6 @@ recordsAt (suc left) k stations book p =
     andThen (recordAt k stations book p) (λ first.
     andThen (recordsAt left (k + 1) stations book (first .1)) (λ rest.
     Ok (first .0 ∷ rest .0, rest .1)))
-
--- The records passed over, and none kept.
-abbrev pub passed : Result (List Line × ℕ) RecordFault → Result (Unit {0} × ℕ) RecordFault
-passed (Ok x) = Ok (tt, x .1)
-passed (Err e) = Err e
 
 -- The five numbers of a line.
 abbrev pub lineNumbers : Line → List ℕ

@@ -1,5 +1,4 @@
 -- The two edits of an editable net: what each answers, and the net after it. Assumes nothing.
-use mathlib.Core.List.{List}
 use mathlib.Core.Bool.{Bool, cond}
 use Prim.Native.Nat.{ℕ}
 use lib.Dec.{ltb}

@@ -1,6 +1,4 @@
-use borrow.Author.Needs.{needs}
 use native.Mathlib.Omega.{arith}
-use mathlib.Core.Path.{_≡_, subst, sym, _∙_}
 use Prim.Native.Nat.{_+_, _*_, _-_, _^_, _<_}
 use lib.ListN.{getD}
 use Rattle.books.proofs.NumberRead.{at-short, at-large, at-padded, at-last, at-more, last-fits, group-fits, scale-more}

@@ -3,7 +3,6 @@ use mathlib.Core.List.{[], _++_}
 use Prim.Native.Nat.{ℕ, _<_}
 use native.Mathlib.Omega.{arith}
 use lib.ListN.{length, set, drop}
-use Rattle.std.proofs.shelf.Results.{err-from-errBy}
 use Rattle.books.proofs.BookAccepted.{bytes-all, filled-table, filled-accepted}
 use Rattle.books.proofs.Readings.{ok-same}
 use Rattle.books.proofs.RecordsRead.{begun, read-more, fault-read, fill-more, ended}
