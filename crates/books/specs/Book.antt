@@ -22,6 +22,7 @@ use Rattle.books.specs.Records.{recordsAt, lineNumbers}
 abbrev pub editionAt : List ℕ → ℕ → Result (ℕ × ℕ) BookFault
 editionAt = fieldAt HeadNumber (λ n. eqb n 1) Edition
 
+-- The stations are within the limits of a net.
 abbrev pub stationsAt : List ℕ → ℕ → Result (ℕ × ℕ) BookFault
 stationsAt = fieldAt HeadNumber (λ n. ltb 0 n && leb n maxStations) HeadLimit
 
