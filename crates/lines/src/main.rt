@@ -1,11 +1,13 @@
 // Lists the net of a line book. Reads the book from standard input, of which it keeps at most the first
 // 32,768 bytes, and writes the counts of stations and lines and then each line, or why the book is refused.
+use books::BookFault;
 use books::read_book;
 use nets::Line;
 use nets::ListNet;
 use nets::ListNetNet as _;
 use nets::MAX_LINES;
 use nets::Net;
+use std::fmt;
 use std::io;
 use std::io::Read;
 
@@ -19,29 +21,51 @@ const BLANK: Line = Line {
     open: false,
 };
 
+// A line as it is listed, with its number.
+#[derive(Clone, Copy)]
+struct Listed {
+    number: usize,
+    line: Line,
+}
+
+impl fmt::Display for Listed as ListedDisplay {
+    fn fmt<W: fmt::Write>(&self, f: &mut fmt::Formatter<W>) -> fmt::Result {
+        let number = self.number;
+        let Line {
+            from,
+            to,
+            fee,
+            loss,
+            open,
+        } = self.line;
+        let standing = if open { "open" } else { "shut" };
+        write!(f, "{number} {from} {to} {fee} {loss} {standing}")
+    }
+}
+
+// A refusal as it is written.
+#[derive(Clone, Copy)]
+struct Refused(BookFault);
+
+impl fmt::Display for Refused as RefusedDisplay {
+    fn fmt<W: fmt::Write>(&self, f: &mut fmt::Formatter<W>) -> fmt::Result {
+        let number = self.0.refusal().number();
+        let place = self.0.place();
+        write!(f, "refused {number} at {place}")
+    }
+}
+
 fn list_net<N: Net>(rt: &LibcRuntime, net: &N) -> io::Result<()> {
     let stations = net.stations();
     let lines = net.line_count();
     println!(rt, "stations {stations}")?;
     println!(rt, "lines {lines}")?;
-    for k in 0..lines {
-        if let Some(line) = net.line(k) {
-            list_line(rt, k, line)?;
+    for number in 0..lines {
+        if let Some(line) = net.line(number) {
+            rt.println(Listed { number, line })?;
         }
     }
     Ok(())
-}
-
-fn list_line(rt: &LibcRuntime, k: usize, line: Line) -> io::Result<()> {
-    let Line {
-        from,
-        to,
-        fee,
-        loss,
-        open,
-    } = line;
-    let standing = if open { "open" } else { "shut" };
-    println!(rt, "{k} {from} {to} {fee} {loss} {standing}")
 }
 
 fn main(rt: LibcRuntime) -> io::Result<()> {
@@ -53,10 +77,33 @@ fn main(rt: LibcRuntime) -> io::Result<()> {
             records.truncate(head.lines);
             list_net(&rt, &ListNet::new(head.stations, records.as_mut_slice()))
         }
-        Err(fault) => {
-            let number = fault.refusal().number();
-            let place = fault.place();
-            println!(rt, "refused {number} at {place}")
+        Err(fault) => rt.println(Refused(fault)),
+    }
+}
+
+#[cfg(test)]
+mod tests {
+    use super::*;
+    use std::test::*;
+
+    #[test]
+    fn a_refusal_has_number_and_place(rt: LibcRuntime) -> Result<(), Fail> {
+        let mut records = [BLANK; 2];
+        match read_book(b"\x01\x05\x02\x00\x01\x80\x00", &mut records) {
+            Ok(_) => Err(Fail::new("accepted")),
+            Err(fault) => {
+                let text = Refused(fault).to_string(rt.alloc())?;
+                check_eq(text.as_str(), "refused 3 at 5")
+            }
         }
+    }
+
+    #[test]
+    fn a_shut_line_says_so(rt: LibcRuntime) -> Result<(), Fail> {
+        let listed = Listed {
+            number: 7,
+            line: Line { fee: 12, ..BLANK },
+        };
+        check_eq(listed.to_string(rt.alloc())?.as_str(), "7 0 0 12 0 shut")
     }
 }
