@@ -27,8 +27,8 @@ use Rattle.books.proofs.NumberTrips.{read-of-written}
 use Rattle.books.proofs.NumberWritten.{limit}
 
 -- From place p on the book holds just these numbers.
-abbrev Holds : List ℕ → ℕ → List ℕ → Type 0
-Holds book p ns = drop p book ≡ joined encoding ns
+abbrev HoldsToEnd : List ℕ → ℕ → List ℕ → Type 0
+HoldsToEnd book p ns = drop p book ≡ joined encoding ns
 
 -- the place behind the number n
 abbrev next : ℕ → ℕ → ℕ
@@ -46,20 +46,20 @@ bit-most true = omega arith
 bit-most false = omega arith
 
 module _ (book : List ℕ) where
-  number-forth : (p n : ℕ) (ns : List ℕ) → Holds book p (n ∷ ns) → n < 2 ^ 32 → (numberAt book p ≡ Ok (n, next p n)) × Holds book (next p n) ns
+  number-forth : (p n : ℕ) (ns : List ℕ) → HoldsToEnd book p (n ∷ ns) → n < 2 ^ 32 → (numberAt book p ≡ Ok (n, next p n)) × HoldsToEnd book (next p n) ns
   number-forth p n ns h s = (
     ap (λ bs. placed p (number bs)) h ∙ ap (placed p) (read-of-written n (joined encoding ns) s),
     sym (drop-drop (length (encoding n)) p book) ∙ ap (drop (length (encoding n))) h ∙ drop-at (encoding n) (joined encoding ns) (length (encoding n)) refl,
   )
 
   field-forth : {F : Type 0} (wrap : NumberFault → F) (test : ℕ → Bool) (fault : ℕ → F) (p n : ℕ) (ns : List ℕ)
-      → Holds book p (n ∷ ns) → n < 2 ^ 32 → test n ≡ true → (fieldAt wrap test fault book p ≡ Ok (n, next p n)) × Holds book (next p n) ns
+      → HoldsToEnd book p (n ∷ ns) → n < 2 ^ 32 → test n ≡ true → (fieldAt wrap test fault book p ≡ Ok (n, next p n)) × HoldsToEnd book (next p n) ns
   field-forth wrap test fault p n ns h s t =
       let f = number-forth p n ns h s in
       (then-is (inside wrap (numberAt book p)) _ (n, next p n) _ (ap (inside wrap) (f .0)) (cond-true (test n) (Ok (n, next p n)) (Err (fault p)) t), f .1)
 
-  record-forth : (k stations p : ℕ) (l : Line) (ns : List ℕ) → stations ≤ maxStations → LineLimits stations l → Holds book p (lineNumbers l ++ ns)
-      → (q : ℕ) × (recordAt k stations book p ≡ Ok (l, q)) × Holds book q ns
+  record-forth : (k stations p : ℕ) (l : Line) (ns : List ℕ) → stations ≤ maxStations → LineLimits stations l → HoldsToEnd book p (lineNumbers l ++ ns)
+      → (q : ℕ) × (recordAt k stations book p ≡ Ok (l, q)) × HoldsToEnd book q ns
   unfolding recordAt fieldsAt
   record-forth k stations p l ns few m h =
       let bit : ℕ = cond (l .«open») 1 0 in
@@ -83,8 +83,8 @@ module _ (book : List ℕ) where
       (ap (λ (b : Bool). Ok (record { from = l .from; to = l .to; fee = l .fee; loss = l .loss; «open» = b }, p5)) (bit-open (l .«open»)))) in
       (p5, ap (inside (inLine k)) fields, e .1)
 
-  records-forth : (stations : ℕ) (ls : List Line) (k p : ℕ) → stations ≤ maxStations → All (LineLimits stations) ls → Holds book p (joined lineNumbers ls)
-      → (q : ℕ) × (recordsAt (length ls) k stations book p ≡ Ok (ls, q)) × Holds book q []
+  records-forth : (stations : ℕ) (ls : List Line) (k p : ℕ) → stations ≤ maxStations → All (LineLimits stations) ls → HoldsToEnd book p (joined lineNumbers ls)
+      → (q : ℕ) × (recordsAt (length ls) k stations book p ≡ Ok (ls, q)) × HoldsToEnd book q []
   records-forth stations [] k p few m h = (p, refl, h)
   records-forth stations (l ∷ ls) k p few m h =
       let a = record-forth k stations p l (joined lineNumbers ls) few (m .0) h in
@@ -94,8 +94,8 @@ module _ (book : List ℕ) where
         b .2,
       )
 
-  head-forth : (room : ℕ) (m : Model) → Sound m → length (m .lines) ≤ room → Holds book 0 (bookNumbers m)
-      → (q : ℕ) × (headAt room book 0 ≡ Ok (record { stations = m .stations; lines = length (m .lines) }, q)) × Holds book q (joined lineNumbers (m .lines))
+  head-forth : (room : ℕ) (m : Model) → Sound m → length (m .lines) ≤ room → HoldsToEnd book 0 (bookNumbers m)
+      → (q : ℕ) × (headAt room book 0 ≡ Ok (record { stations = m .stations; lines = length (m .lines) }, q)) × HoldsToEnd book q (joined lineNumbers (m .lines))
   unfolding headAt
   head-forth room m s fits h =
       let n = length (m .lines) in
@@ -117,7 +117,7 @@ module _ (book : List ℕ) where
   end-forth p h =
       cond-false (ltb p (length book)) (Err (BytesLeft p)) (Ok tt) (le-ltb p (length book) (omega (arith, ap length h, length-drop p book)))
 
-  reading-forth : (room : ℕ) (m : Model) → Sound m → length (m .lines) ≤ room → Holds book 0 (bookNumbers m) → reading room book ≡ Ok m
+  reading-forth : (room : ℕ) (m : Model) → Sound m → length (m .lines) ≤ room → HoldsToEnd book 0 (bookNumbers m) → reading room book ≡ Ok m
   unfolding reading
   reading-forth room m s fits h =
       let a = head-forth room m s fits h in

@@ -67,10 +67,11 @@ abbrev pub tableAfter : Result Model BookFault → List Line → List Line
 tableAfter (Ok m) table = m .lines ++ drop (length (m .lines)) table
 tableAfter (Err e) table = table
 
--- The numbers of a net's book: the edition, the stations, the lines, then those of each line.
+-- The numbers of the head of a net's book: the edition, the stations, the lines.
 abbrev pub headNumbers : Model → List ℕ
 headNumbers m = 1 ∷ m .stations ∷ length (m .lines) ∷ []
 
+-- The numbers of the head, then those of each line.
 abbrev pub bookNumbers : Model → List ℕ
 bookNumbers m = headNumbers m ++ joined lineNumbers (m .lines)
 

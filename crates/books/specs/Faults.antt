@@ -24,14 +24,17 @@ recordRefusal (Number e) = numberRefusal (e .error)
 recordRefusal (Station p) = refusal.RecordStation
 recordRefusal (Limit p) = refusal.RecordLimit
 
+-- The place where the number at fault in a record begins.
 abbrev pub recordPlace : RecordError → ℕ
 recordPlace (Number e) = e .place
 recordPlace (Station p) = p
 recordPlace (Limit p) = p
 
+-- The same of a fault that tells its line.
 abbrev pub faultPlace : RecordFault → ℕ
 faultPlace f = recordPlace (f .error)
 
+-- The layer in which the fault of a record arises.
 abbrev pub recordLayer : RecordError → Layer
 recordLayer (Number e) = layer.Number
 recordLayer (Station p) = layer.Record

@@ -19,6 +19,7 @@ abbrev pub inside : {A E F : Type 0} → (E → F) → Result A E → Result A F
 inside wrap (Ok x) = Ok x
 inside wrap (Err e) = Err (wrap e)
 
+-- A number that was read from place p on, with the place after it in the book.
 abbrev pub placed : ℕ → Result (ℕ × ℕ) NumberError → Result (ℕ × ℕ) NumberFault
 placed p (Ok x) = Ok (x .0, p + x .1)
 placed p (Err e) = Err (record { place = p; error = e })

@@ -22,12 +22,14 @@ stationAt stations = fieldAt Number (λ n. ltb n stations) Station
 abbrev pub limitedAt : (most : ℕ) → List ℕ → ℕ → Result (ℕ × ℕ) RecordError
 limitedAt most = fieldAt Number (λ n. leb n most) Limit
 
+-- The two stations of a record: from, to.
 abbrev pub endsAt : (stations : ℕ) → List ℕ → ℕ → Result ((ℕ × ℕ) × ℕ) RecordError
 endsAt stations book p =
     andThen (stationAt stations book p) (λ from.
     andThen (stationAt stations book (from .1)) (λ to.
     Ok ((from .0, to .0), to .1)))
 
+-- The other three numbers of a record: fee, loss, and 1 for open or 0 for shut.
 abbrev pub termsAt : List ℕ → ℕ → Result ((ℕ × ℕ × ℕ) × ℕ) RecordError
 termsAt book p =
     andThen (limitedAt maxFee book p) (λ fee.
@@ -42,6 +44,7 @@ fieldsAt stations book p =
     andThen (termsAt book (ends .1)) (λ terms.
     Ok (record { from = ends .0 .0; to = ends .0 .1; fee = terms .0 .0; loss = terms .0 .1; «open» = eqb (terms .0 .2) 1 }, terms .1)))
 
+-- A record's fault, with the line being read.
 abbrev pub inLine : ℕ → RecordError → RecordFault
 inLine line e = record { line = line; error = e }
 

@@ -25,6 +25,7 @@ use nets::MAX_STATIONS;
 // The edition that this reader takes, and the writer writes.
 pub(crate) const EDITION: u32 = 1;
 
+// The book, and the place in it of the next byte to be read, which may lie beyond the end.
 #[derive(Drop)]
 pub struct Reader<'a> {
     pub book: &'a [u8],
@@ -141,6 +142,7 @@ impl<'a> Reader<'a> {
         Ok(value)
     }
 
+    // From and to.
     fn ends(&mut self, stations: usize) -> Result<(u32, u32), RecordError>
         ensures { λ r. ⌜ Reads recordPlace (endsAt stations) (now (self .entry)) (now (self .exit)) r ⌝ }
     {
@@ -149,6 +151,7 @@ impl<'a> Reader<'a> {
         Ok((from, to))
     }
 
+    // Fee, loss, and 1 for open or 0 for shut.
     fn terms(&mut self) -> Result<(u32, u32, u32), RecordError>
         ensures { λ r. ⌜ Reads recordPlace termsAt (now (self .entry)) (now (self .exit)) r ⌝ }
     {

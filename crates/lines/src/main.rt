@@ -2,6 +2,7 @@
 // 32,768 bytes, and writes the counts of stations and lines and then each line, or why the book is refused.
 use books::BookFault;
 use books::read_book;
+use nets::BLANK_LINE;
 use nets::Line;
 use nets::ListNet;
 use nets::ListNetNet as _;
@@ -12,14 +13,6 @@ use std::io;
 use std::io::Read;
 
 const MAX_BYTES: u64 = 32_768;
-
-const BLANK: Line = Line {
-    from: 0,
-    to: 0,
-    fee: 0,
-    loss: 0,
-    open: false,
-};
 
 // A line as it is listed, with its number.
 #[derive(Clone, Copy)]
@@ -71,7 +64,7 @@ fn list_net<N: Net>(rt: &LibcRuntime, net: &N) -> io::Result<()> {
 fn main(rt: LibcRuntime) -> io::Result<()> {
     let mut book = Vec::new(rt.alloc());
     rt.stdin().take(MAX_BYTES).read_to_end(&mut book)?;
-    let mut records = vec![in rt.alloc(); BLANK; MAX_LINES]?;
+    let mut records = vec![in rt.alloc(); BLANK_LINE; MAX_LINES]?;
     match read_book(book.as_slice(), records.as_mut_slice()) {
         Ok(head) => {
             records.truncate(head.lines);
@@ -88,7 +81,7 @@ mod tests {
 
     #[test]
     fn a_refusal_has_number_and_place(rt: LibcRuntime) -> Result<(), Fail> {
-        let mut records = [BLANK; 2];
+        let mut records = [BLANK_LINE; 2];
         match read_book(b"\x01\x05\x02\x00\x01\x80\x00", &mut records) {
             Ok(_) => Err(Fail::new("accepted")),
             Err(fault) => {
@@ -102,7 +95,10 @@ mod tests {
     fn a_shut_line_says_so(rt: LibcRuntime) -> Result<(), Fail> {
         let listed = Listed {
             number: 7,
-            line: Line { fee: 12, ..BLANK },
+            line: Line {
+                fee: 12,
+                ..BLANK_LINE
+            },
         };
         check_eq(listed.to_string(rt.alloc())?.as_str(), "7 0 0 12 0 shut")
     }

@@ -26,6 +26,7 @@ abbrev pub changedAt : Option Line → Model → ℕ → (Line → Line) → Mod
 changedAt None m k f = m
 changedAt (Some l) m k f = record { stations = m .stations; lines = set (m .lines) k (f l) }
 
+-- The same, by the line that the net has at k.
 abbrev pub changed : Model → ℕ → (Line → Line) → Model
 changed m k f = changedAt (nth (m .lines) k) m k f
 
@@ -42,5 +43,6 @@ priced m k fee loss = cond (priceFits fee loss) (changed m k (withPrice fee loss
 abbrev pub openAnswer : Model → ℕ → Result (Unit {0}) Refusal
 openAnswer m k = cond (ltb k (length (m .lines))) (Ok tt) (Err NoSuchLine)
 
+-- The net after the edit, whether it was accepted or refused.
 abbrev pub opened : Model → ℕ → Bool → Model
 opened m k b = changed m k (withOpen b)

@@ -15,6 +15,7 @@ pub use limits::MAX_FEE;
 pub use limits::MAX_LINES;
 pub use limits::MAX_LOSS;
 pub use limits::MAX_STATIONS;
+pub use line::BLANK_LINE;
 pub use line::Line;
 pub use line::LineDebug;
 pub use line::LineEq;

@@ -8,3 +8,12 @@ pub struct Line {
     pub loss: u32,
     pub open: bool,
 }
+
+// A shut line from station 0 to station 0, at no fee and no loss: what a record beyond the limits reads as.
+pub const BLANK_LINE: Line = Line {
+    from: 0,
+    to: 0,
+    fee: 0,
+    loss: 0,
+    open: false,
+};

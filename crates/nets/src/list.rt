@@ -12,6 +12,7 @@ use crate::fits::line_fits;
 use crate::fits::price_fits;
 use crate::limits::MAX_LINES;
 use crate::limits::MAX_STATIONS;
+use crate::line::BLANK_LINE;
 use crate::line::Line;
 use crate::net::EditableNet;
 use crate::net::Net;
@@ -87,14 +88,9 @@ fn read(stations: usize, l: Line) -> Line
     ensures { λ r. ⌜ r ≡ seen stations l ⌝ }
 {
     if line_fits(stations, l) {
-        return l;
-    }
-    Line {
-        from: 0,
-        to: 0,
-        fee: 0,
-        loss: 0,
-        open: false,
+        l
+    } else {
+        BLANK_LINE
     }
 }
 
