@@ -1,4 +1,6 @@
 // The line book: a net as a run of bytes, read and written.
+#![tactic(auto)]
+
 mod fault;
 mod head;
 mod number;

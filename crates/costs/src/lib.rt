@@ -1,4 +1,6 @@
 // Cost kinds and bandings: how costs compare and join, and how they fall into levels.
+#![tactic(auto)]
+
 mod amount;
 mod banding;
 mod fees;

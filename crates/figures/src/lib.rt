@@ -1,4 +1,6 @@
 // The worked figures: examples with what the definitions give for them, and that they do.
+#![tactic(auto)]
+
 ghost use Rattle.std.specs.Prelude.{◌≡◌};
 ghost use Rattle.figures.specs.Figures.{Figures};
 ghost use Rattle.figures.specs.FiveLines.{open_line, five_lines, five_line_book};

@@ -1,5 +1,7 @@
 // Lists the net of a line book. Reads the book from standard input, of which it keeps at most the first
 // 32,768 bytes, and writes the counts of stations and lines and then each line, or why the book is refused.
+#![tactic(auto)]
+
 use books::{BookFault, read_book};
 use nets::{BLANK_LINE, Line, ListNet, MAX_LINES, Net};
 use std::io::Read;

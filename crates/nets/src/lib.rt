@@ -1,4 +1,6 @@
 // Nets: a count of stations and a list of lines, behind one trait, and the edits of an editable net.
+#![tactic(auto)]
+
 mod fits;
 mod lattice;
 mod limits;

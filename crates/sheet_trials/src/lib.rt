@@ -1,4 +1,6 @@
 // Tests of the cost kinds, the bandings and the check of a sheet; there is no other code here.
+#![tactic(auto)]
+
 #[cfg(test)]
 mod bandings;
 #[cfg(test)]

@@ -54,7 +54,7 @@ module _ {V : Type 0} (K : Costs V) (L : Laws K) (G : Graph V) (W : Within G) (g
       let u = (G.line k).from in
       let before = back_leads S bs u (W.from k b.1) (Order.joined_some K L _ _ (λ e. some (sym fit.adds_up ∙ e))) b.2 in
       let turned = sym (reverse-cons k bs) in (
-        subst (λ ks. Leads G g ks v) turned (subst (λ x. Leads G g (reverse bs ++ (k ∷ [])) x) fit.into (RouteCosts.leads-snoc G g (reverse bs) u k before.0 b.1 refl)),
+        subst (λ ks. Leads G g ks v) turned (subst (λ x. Leads G g (reverse bs ++ (k ∷ [])) x) fit.into (RouteCosts.leads_snoc G g (reverse bs) u k before.0 b.1 refl)),
         subst (λ ks. route_cost K G ks ≡ (s v).cost) turned (RouteCosts.joined_snoc K G K.start (reverse bs) k ∙ ap (λ c. K.join c (G.line k).cost) before.1 ∙ fit.adds_up),
       )
 
@@ -80,7 +80,7 @@ module _ {V : Type 0} (K : Costs V) (L : Laws K) (G : Graph V) (W : Within G) (g
       (λ e. Order.le_eq K L _ _ _ (L.none_greatest _) (sym (ap (λ c. K.join c (G.line k).cost) e ∙ L.none_join (G.line k).cost)))
       (λ some.
       let r = RouteCosts.reached K L G g u _ (R.costs u (W.from k h)) some in
-      let q = RouteCosts.least_of_all K L G g (G.line k).to _ (R.costs (G.line k).to (W.to k h)) (r.0 ++ (k ∷ [])) (RouteCosts.leads-snoc G g r.0 u k r.1 h refl) in
+      let q = RouteCosts.least_of_all K L G g (G.line k).to _ (R.costs (G.line k).to (W.to k h)) (r.0 ++ (k ∷ [])) (RouteCosts.leads_snoc G g r.0 u k r.1 h refl) in
       Order.le_eq K L _ _ _ q (RouteCosts.joined_snoc K G K.start r.0 k ∙ ap (λ c. K.join c (G.line k).cost) r.2))
       (Order.none_or_some K L (s u).cost)
 

@@ -73,7 +73,7 @@ module _ {V : Type 0} (K : Costs V) (L : Laws K) where
     gateway_says : Known g → ((s g).cost ≡ K.start) × ((s g).via ≡ None)
     gateway_says (at_gateway no-via q e) = (e, no-via)
     gateway_says (cut no-via ne e) = absurd (ne refl)
-    gateway_says (by_via k q h) = absurd (h.not-gateway refl)
+    gateway_says (by_via k q h) = absurd (h.not_gateway refl)
 
     cut_off_says : (v : ℕ) → Known v → (s v).cost ≡ K.none → (s v).via ≡ None
     cut_off_says v (at_gateway no-via q e) n = no-via

@@ -1,4 +1,6 @@
 // Sheets: the rows of every station, what makes them right for a net and a gateway, and the check that tells.
+#![tactic(auto)]
+
 mod checking;
 mod comparing;
 mod reading;

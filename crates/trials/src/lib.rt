@@ -1,4 +1,6 @@
 // Tests of the nets and of the line books; there is no other code here.
+#![tactic(auto)]
+
 #[cfg(test)]
 mod book_cuts;
 #[cfg(test)]

@@ -7,21 +7,21 @@ use Rattle.books.proofs.read.fill_records.Goals as goal
 pub loop-k-init : goal.loop-k-init
 loop-k-init c = (([], begun c.args.head.lines c.args.head.stations c.args.book.now c.args.start, refl), refl)
 
-pub returns-in-err-record : goal.returns-in-err-record
-returns-in-err-record c =
+pub returns-in_err-record : goal.returns-in_err-record
+returns-in_err-record c =
     let e =
     fault_read c.args.head.lines c.args.head.stations c.loop-k.k (record { book = c.args.book; at = c.args.start }) c.loop-k.reader c.record.new.self
-    c.loop-k.invariant.1 c.loop-k.invariant.0.0 c.loop-k.invariant.0.1 c.loop-k-test.true _ c.in-err-record.ensures in
+    c.loop-k.invariant.1 c.loop-k.invariant.0.0 c.loop-k.invariant.0.1 c.loop-k-test.true _ c.in_err-record.ensures in
     let o = c.requires.records in
     let z : ◌≡◌ {A = ℕ} 0 1 = cc in
     absurd (omega arith)
 
 pub loop-k-preserved : goal.loop-k-preserved
 loop-k-preserved c =
-    let r = c.in-ok-record.ensures in
+    let r = c.in_ok-record.ensures in
     let done = c.loop-k.invariant.0.0 in
     let p = c.loop-k.invariant.0.1 in
-    let l = c.in-ok-record.record in
+    let l = c.in_ok-record.record in
     let h : c.loop-k.k < length c.args.records.now = omega (arith, c.requires.fits) in (
       (
         _,
@@ -43,7 +43,7 @@ returns c =
     let end : c.loop-k.k ≡ h.lines = omega arith in
     let filled : c.loop-k.records ≡ c.requires.lines ++ drop h.lines t =
     c.loop-k.invariant.0.2 ∙ ap (λ ls. ls ++ drop c.loop-k.k t) all ∙ ap (λ n. c.requires.lines ++ drop n t) end in
-    let bytes = bytes_all b (λ i. omega (arith, c.type-inv.book i)) in
+    let bytes = bytes_all b (λ i. omega (arith, c.type_inv.book i)) in
     record {
       done = refl;
       table = filled_table (length t) b bytes h c.args.start c.requires t c.loop-k.records filled;

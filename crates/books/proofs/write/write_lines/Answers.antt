@@ -6,14 +6,14 @@ use Rattle.books.proofs.write.write_lines.Goals as goal
 pub loop-line-init : goal.loop-line-init
 loop-line-init g c = (written_none line_bytes c.args.out.now c.args.at (g.N.Net.meant c.args.net.now).lines, omega arith)
 
-pub write-line-place-requires : goal.write-line-place-requires
-write-line-place-requires g c =
+pub write_line-place-requires : goal.write_line-place-requires
+write_line-place-requires g c =
     let ls = (g.N.Net.meant c.args.net.now).lines in
     let i = slice_get-inside ls c.loop-line.k c.in-Some.line c.in-Some.ensures in
     room_next line_bytes c.args.out.now c.args.at ls c.requires c.loop-line.k c.loop-line.place c.loop-line.out c.in-Some.line c.loop-line.invariant.0 i.0 i.1
 
-pub overflow-add-k : goal.overflow-add-k
-overflow-add-k g c =
+pub overflow_add-k : goal.overflow_add-k
+overflow_add-k g c =
     let n = c.args.net.now in
     omega (arith, (slice_get-inside (g.N.Net.meant n).lines c.loop-line.k c.in-Some.line c.in-Some.ensures).0, (g.N.Net.sound n).short)
 
@@ -25,7 +25,7 @@ loop-line-preserved g c =
     let ls = (g.N.Net.meant c.args.net.now).lines in
     let i = slice_get-inside ls c.loop-line.k c.in-Some.line c.in-Some.ensures in (
       written_more line_bytes c.args.out.now c.args.at ls c.requires c.loop-line.k c.loop-line.place c.loop-line.out c.in-Some.line _ _ c.loop-line.invariant.0 i.0 i.1
-          c.write-line-place.ensures.place c.write-line-place.ensures.out,
+          c.write_line-place.ensures.place c.write_line-place.ensures.out,
       omega (arith, i.0),
     )
 
@@ -33,4 +33,4 @@ pub returns : goal.returns
 returns g c =
     let ls = (g.N.Net.meant c.args.net.now).lines in
     (written_all line_bytes c.args.out.now c.args.at ls c.requires c.loop-line.k c.loop-line.place c.loop-line.out c.loop-line.invariant.0
-    (slice_get-outside ls c.loop-line.k c.in-default.ensures)).1
+    (slice_get-outside ls c.loop-line.k c.in_default.ensures)).1

@@ -7,8 +7,8 @@ use Rattle.books.proofs.write.write_numbers.Goals as goal
 pub loop-n-init : goal.loop-n-init
 loop-n-init c = written_none encoding c.args.out.now c.args.at c.args.numbers.now
 
-pub write-number-place-requires : goal.write-number-place-requires
-write-number-place-requires c =
+pub write_number-place-requires : goal.write_number-place-requires
+write_number-place-requires c =
     let xs = c.args.numbers.now in
     let i = c.loop-n.n-index in
     let h : i < length xs = omega arith in
@@ -20,7 +20,7 @@ loop-n-preserved c =
     let i = c.loop-n.n-index in
     let h : i < length xs = omega arith in
     written_more encoding c.args.out.now c.args.at xs c.requires i c.loop-n.place c.loop-n.out (get_or xs i 0) _ _ c.loop-n.invariant h (get_or_default xs i 0 _ h)
-    c.write-number-place.ensures.place c.write-number-place.ensures.out
+    c.write_number-place.ensures.place c.write_number-place.ensures.out
 
 pub returns : goal.returns
 returns c =

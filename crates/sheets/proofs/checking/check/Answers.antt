@@ -3,10 +3,10 @@ use Rattle.sheets.specs.Check.{checked}
 use Rattle.sheets.proofs.Checks.{tells}
 use Rattle.sheets.proofs.checking.check.Goals as goal
 
-pub returns-in-err-admit : goal.returns-in-err-admit
-returns-in-err-admit g c =
+pub returns-in_err-admit : goal.returns-in_err-admit
+returns-in_err-admit g c =
     let net = c.args.net.now in
-    let answer : c.from-residual.result ≡ checked g.K.CostKind (g.N.Net.meant net) c.args.gateway c.args.rows.now = search rules in
+    let answer : c.from_residual.result ≡ checked g.K.CostKind (g.N.Net.meant net) c.args.gateway c.args.rows.now = search rules in
     record { answer = answer; tells = tells g.K.CostKind g.met.K.CostKind.lawful (g.N.Net.meant net) (g.N.Net.sound net) c.args.gateway c.args.rows.now _ answer }
 
 pub returns : goal.returns

@@ -7,15 +7,15 @@ use Rattle.sheets.proofs.stations.stations_hold.Goals as goal
 pub loop-v-init : goal.loop-v-init
 loop-v-init g c = all_none _
 
-pub station-holds-requires : goal.station-holds-requires
-station-holds-requires g c = record { rows = c.requires; station = c.loop-v-test.true }
+pub station_holds-requires : goal.station_holds-requires
+station_holds-requires g c = record { rows = c.requires; station = c.loop-v-test.true }
 
-pub returns-then-not-station-holds : goal.returns-then-not-station-holds
-returns-then-not-station-holds g c =
-    sym (all_fails _ _ c.loop-v.v (omega (arith, c.requires)) (sym c.station-holds.ensures ∙ c.if-not-station-holds.true))
+pub returns-then-not-station_holds : goal.returns-then-not-station_holds
+returns-then-not-station_holds g c =
+    sym (all_fails _ _ c.loop-v.v (omega (arith, c.requires)) (sym c.station_holds.ensures ∙ c.if-not-station_holds.true))
 
 pub loop-v-preserved : goal.loop-v-preserved
-loop-v-preserved g c = all_more _ c.loop-v.v c.loop-v.invariant (sym c.station-holds.ensures ∙ c.if-not-station-holds.false)
+loop-v-preserved g c = all_more _ c.loop-v.v c.loop-v.invariant (sym c.station_holds.ensures ∙ c.if-not-station_holds.false)
 
 pub returns : goal.returns
 returns g c =

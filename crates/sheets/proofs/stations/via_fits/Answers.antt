@@ -6,8 +6,8 @@ use Rattle.sheets.specs.Tables.{graph, sheet}
 use Rattle.sheets.proofs.NetLines.{line_at, edge_at}
 use Rattle.sheets.proofs.stations.via_fits.Goals as goal
 
-pub is-tight-into-requires : goal.is-tight-into-requires
-is-tight-into-requires g c =
+pub is_tight_into-requires : goal.is_tight_into-requires
+is_tight_into-requires g c =
     let n = c.args.net.now in
     let at = line_at (g.N.Net.meant n) (g.N.Net.sound n) c.args.k c.in-Some.line (sym c.line.ensures ∙ c.in-Some.is) in
     let from = at.limits.from in
@@ -20,7 +20,7 @@ returns-in-Some g c =
     let m = g.N.Net.meant n in
     let at = line_at m (g.N.Net.sound n) c.args.k c.in-Some.line (sym c.line.ensures ∙ c.in-Some.is) in
     let tight = tight_into k.ops (sheet k c.args.rows.now) c.args.v in
-    c.is-tight-into.ensures
+    c.is_tight_into.ensures
     ∙ ap tight (sym (edge_at k.ops m c.args.k c.in-Some.line at))
     ∙ ap (λ b. b && tight ((graph k m).line c.args.k)) (sym (lt-ltb _ _ at.counts))
 

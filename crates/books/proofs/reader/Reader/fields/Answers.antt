@@ -2,13 +2,13 @@ use Rattle.std.proofs.Common.{rules}
 use Rattle.books.specs.Records.{fields_at}
 use Rattle.books.proofs.reader.Reader.fields.Goals as goal
 
-pub returns-in-err-from : goal.returns-in-err-from
+pub returns-in_err-from : goal.returns-in_err-from
 unfolding fields_at
-returns-in-err-from c = search rules
+returns-in_err-from c = search rules
 
-pub returns-in-err-fee : goal.returns-in-err-fee
+pub returns-in_err-fee : goal.returns-in_err-fee
 unfolding fields_at
-returns-in-err-fee c = search rules
+returns-in_err-fee c = search rules
 
 pub returns : goal.returns
 unfolding fields_at

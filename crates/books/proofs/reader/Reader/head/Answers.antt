@@ -2,17 +2,17 @@ use Rattle.std.proofs.Common.{rules}
 use Rattle.books.specs.Book.{head_at}
 use Rattle.books.proofs.reader.Reader.head.Goals as goal
 
-pub returns-in-err-edition : goal.returns-in-err-edition
+pub returns-in_err-edition : goal.returns-in_err-edition
 unfolding head_at
-returns-in-err-edition c = search rules
+returns-in_err-edition c = search rules
 
-pub returns-in-err-stations : goal.returns-in-err-stations
+pub returns-in_err-stations : goal.returns-in_err-stations
 unfolding head_at
-returns-in-err-stations c = search rules
+returns-in_err-stations c = search rules
 
-pub returns-in-err-lines : goal.returns-in-err-lines
+pub returns-in_err-lines : goal.returns-in_err-lines
 unfolding head_at
-returns-in-err-lines c = search rules
+returns-in_err-lines c = search rules
 
 pub returns : goal.returns
 unfolding head_at

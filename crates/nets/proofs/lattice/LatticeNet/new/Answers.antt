@@ -4,10 +4,10 @@ use Rattle.nets.specs.Lattice.{lattice_fits}
 use Rattle.nets.proofs.Lattices.{sound_from_fits, fits_from_sound}
 use Rattle.nets.proofs.lattice.LatticeNet.new.Goals as goal
 
-pub returns-then-lattice-fits : goal.returns-then-lattice-fits
-returns-then-lattice-fits c =
+pub returns-then-lattice_fits : goal.returns-then-lattice_fits
+returns-then-lattice_fits c =
     let a = c.args in
-    let b : lattice_fits a.rows a.columns a.fees a.loss ≡ true = sym c.lattice-fits.ensures ∙ c.if-lattice-fits.true in
+    let b : lattice_fits a.rows a.columns a.fees a.loss ≡ true = sym c.lattice_fits.ensures ∙ c.if-lattice_fits.true in
     record {
       answer = sym (cond-true _ _ _ b);
       sound = λ _. sound_from_fits a.rows a.columns a.fees a.loss b;
@@ -15,10 +15,10 @@ returns-then-lattice-fits c =
       meaning = refl;
     }
 
-pub returns-else-lattice-fits : goal.returns-else-lattice-fits
-returns-else-lattice-fits c =
+pub returns-else-lattice_fits : goal.returns-else-lattice_fits
+returns-else-lattice_fits c =
     let a = c.args in
-    let b : lattice_fits a.rows a.columns a.fees a.loss ≡ false = sym c.lattice-fits.ensures ∙ c.if-lattice-fits.false in
+    let b : lattice_fits a.rows a.columns a.fees a.loss ≡ false = sym c.lattice_fits.ensures ∙ c.if-lattice_fits.false in
     record {
       answer = sym (cond-false _ _ _ b);
       sound = λ e. absurd (false≢true e);

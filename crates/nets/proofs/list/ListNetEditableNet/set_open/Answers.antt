@@ -5,11 +5,11 @@ use Rattle.nets.proofs.Edits.{absent, present, changed_none}
 use Rattle.nets.proofs.Records.{inside_records, line_limits, listed_rewritten, only_none}
 use Rattle.nets.proofs.list.ListNetEditableNet.set_open.Goals as goal
 
-pub returns-in-default : goal.returns-in-default
-returns-in-default c =
+pub returns-in_default : goal.returns-in_default
+returns-in_default c =
     let n = c.args.self.now.count in
     let records = c.args.self.now.records.now in
-    let e = sym c.line.ensures ∙ c.in-default.is in
+    let e = sym c.line.ensures ∙ c.in_default.is in
     record {
       answer = rw (absent (listed n records) c.args.k e);
       after = changed_none (listed n records) c.args.k (with_open c.args.open) e;
@@ -17,8 +17,8 @@ returns-in-default c =
       refused = λ _. refl;
     }
 
-pub offset-bounds-self-k : goal.offset-bounds-self-k
-offset-bounds-self-k c =
+pub offset_bounds-self-k : goal.offset_bounds-self-k
+offset_bounds-self-k c =
     let h = inside_records c.args.self.now.count c.args.self.now.records.now c.args.k c.in-Some.l (sym c.line.ensures ∙ c.in-Some.is) in
     record { fits = omega (arith, h.1) }
 
@@ -34,7 +34,7 @@ returns c =
     let w = line_limits n records c.args.k c.in-Some.l e in
     record {
       answer = rw (present (listed n records) c.args.k c.in-Some.l e);
-      after = listed_rewritten n records c.args.k c.in-Some.l c.with-open.result (with_open c.args.open) e c.with-open.ensures (record { from = w.from; to = w.to; fee = w.fee; loss = w.loss });
+      after = listed_rewritten n records c.args.k c.in-Some.l c.with_open.result (with_open c.args.open) e c.with_open.ensures (record { from = w.from; to = w.to; fee = w.fee; loss = w.loss });
       only = record { count = refl; lender = refl; value = _; records = refl };
       refused = λ x. grind arith;
     }

@@ -8,11 +8,11 @@ use Rattle.nets.proofs.Edits.{absent, present, priced_none}
 use Rattle.nets.proofs.Records.{inside_records, line_limits, listed_rewritten, only_none}
 use Rattle.nets.proofs.list.ListNetEditableNet.set_price.Goals as goal
 
-pub returns-in-default : goal.returns-in-default
-returns-in-default c =
+pub returns-in_default : goal.returns-in_default
+returns-in_default c =
     let n = c.args.self.now.count in
     let records = c.args.self.now.records.now in
-    let e = sym c.line.ensures ∙ c.in-default.is in
+    let e = sym c.line.ensures ∙ c.in_default.is in
     record {
       answer = rw (absent (listed n records) c.args.k e);
       after = priced_none (listed n records) c.args.k c.args.fee c.args.loss e;
@@ -20,12 +20,12 @@ returns-in-default c =
       refused = λ _. refl;
     }
 
-pub returns-then-not-price-fits : goal.returns-then-not-price-fits
-returns-then-not-price-fits c =
+pub returns-then-not-price_fits : goal.returns-then-not-price_fits
+returns-then-not-price_fits c =
     let n = c.args.self.now.count in
     let records = c.args.self.now.records.now in
     let e = sym c.line.ensures ∙ c.in-Some.is in
-    let b : price_fits c.args.fee c.args.loss ≡ false = sym c.price-fits.ensures ∙ c.if-not-price-fits.true in
+    let b : price_fits c.args.fee c.args.loss ≡ false = sym c.price_fits.ensures ∙ c.if-not-price_fits.true in
     record {
       answer = rw (present (listed n records) c.args.k c.in-Some.l e, b);
       after = sym (cond-false _ _ _ b);
@@ -33,8 +33,8 @@ returns-then-not-price-fits c =
       refused = λ _. refl;
     }
 
-pub offset-bounds-self-k : goal.offset-bounds-self-k
-offset-bounds-self-k c =
+pub offset_bounds-self-k : goal.offset_bounds-self-k
+offset_bounds-self-k c =
     let h = inside_records c.args.self.now.count c.args.self.now.records.now c.args.k c.in-Some.l (sym c.line.ensures ∙ c.in-Some.is) in
     record { fits = omega (arith, h.1) }
 
@@ -48,12 +48,12 @@ returns c =
     let records = c.args.self.now.records.now in
     let e = sym c.line.ensures ∙ c.in-Some.is in
     let w = line_limits n records c.args.k c.in-Some.l e in
-    let b : price_fits c.args.fee c.args.loss ≡ true = sym c.price-fits.ensures ∙ c.if-not-price-fits.false in
+    let b : price_fits c.args.fee c.args.loss ≡ true = sym c.price_fits.ensures ∙ c.if-not-price_fits.false in
     let p = price_from_fits c.args.fee c.args.loss b in
     record {
       answer = rw (present (listed n records) c.args.k c.in-Some.l e, b);
       after =
-          listed_rewritten n records c.args.k c.in-Some.l c.with-price.result (with_price c.args.fee c.args.loss) e c.with-price.ensures (record { from = w.from; to = w.to; fee = p.0; loss = p.1 })
+          listed_rewritten n records c.args.k c.in-Some.l c.with_price.result (with_price c.args.fee c.args.loss) e c.with_price.ensures (record { from = w.from; to = w.to; fee = p.0; loss = p.1 })
           ∙ sym (cond-true _ _ _ b);
       only = record { count = refl; lender = refl; value = _; records = refl };
       refused = λ x. grind arith;

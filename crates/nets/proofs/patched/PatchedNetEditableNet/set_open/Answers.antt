@@ -8,11 +8,11 @@ use Rattle.nets.proofs.Edits.{absent, changed_none}
 use Rattle.nets.proofs.Changes.{patched_rewritten, only_none}
 use Rattle.nets.proofs.patched.PatchedNetEditableNet.set_open.Goals as goal
 
-pub returns-then-k-lines-beneath : goal.returns-then-k-lines-beneath
-returns-then-k-lines-beneath g c =
+pub returns-then-k-lines_beneath : goal.returns-then-k-lines_beneath
+returns-then-k-lines_beneath g c =
     let net = c.args.self.now in
     let m = g.N.Net.meant net.net in
-    let e = slice_get_past (patched net.table.changes m).lines c.args.k (omega (arith, length-patched net.table.changes m.lines, c.lines-beneath.ensures)) in
+    let e = slice_get_past (patched net.table.changes m).lines c.args.k (omega (arith, length-patched net.table.changes m.lines, c.lines_beneath.ensures)) in
     record {
       answer = rw (absent (patched net.table.changes m) c.args.k e);
       after = changed_none (patched net.table.changes m) c.args.k (with_open c.args.open) e;
@@ -26,14 +26,14 @@ returns g c =
     let changes = net.table.changes in
     let m = g.N.Net.meant net.net in
     let old = c.at-c.result in
-    let i : c.args.k < length m.lines = omega (arith, c.lines-beneath.ensures) in
+    let i : c.args.k < length m.lines = omega (arith, c.lines_beneath.ensures) in
     let s = (g.N.Net.sound net.net).short in
     let p = lt-ltb c.args.k (length (patched changes m).lines) (rw (length-patched changes m.lines) i) in
     record {
       answer = rw p;
       after =
-          patched_rewritten changes m c.args.k old c.with-open.result (with_open c.args.open)
-          (omega (arith, c.at-c.ensures.size)) c.at-c.ensures.value i (λ l. ap (λ d. patch_line d l) c.with-open.ensures);
+          patched_rewritten changes m c.args.k old c.with_open.result (with_open c.args.open)
+          (omega (arith, c.at-c.ensures.size)) c.at-c.ensures.value i (λ l. ap (λ d. patch_line d l) c.with_open.ensures);
       only = record { net = refl; value = _; changes = refl };
       refused = λ x. grind arith;
     }

@@ -5,31 +5,31 @@ use Rattle.nets.proofs.SliceGet.{slice_get-counted, slice_get-counted_past}
 use Rattle.nets.proofs.Lattices.{line_made}
 use Rattle.nets.proofs.lattice.lines.LatticeNetNet.line.Goals as goal
 
-pub returns-then-k-line-count : goal.returns-then-k-line-count
-returns-then-k-line-count c =
+pub returns-then-k-line_count : goal.returns-then-k-line_count
+returns-then-k-line_count c =
     let n = c.args.self.now in
     let e = length-lattice n.rows n.columns n.fees n.loss in
-    sym (slice_get-counted_past (line_at n.rows n.columns n.fees n.loss) (directions * (n.rows * n.columns)) c.args.k (omega (arith, c.line-count.ensures)))
+    sym (slice_get-counted_past (line_at n.rows n.columns n.fees n.loss) (directions * (n.rows * n.columns)) c.args.k (omega (arith, c.line_count.ensures)))
 
 pub beside-beside-requires : goal.beside-beside-requires
 beside-beside-requires c =
     let n = c.args.self.now in
     let e = length-lattice n.rows n.columns n.fees n.loss in
-    omega (arith, c.line-count.ensures)
+    omega (arith, c.line_count.ensures)
 
-pub overflow-cast-result : goal.overflow-cast-result
-overflow-cast-result c =
+pub overflow_cast-result : goal.overflow_cast-result
+overflow_cast-result c =
     let n = c.args.self.now in
     let e = length-lattice n.rows n.columns n.fees n.loss in
-    record { fits = omega (arith, c.line-count.ensures, n.few) }
+    record { fits = omega (arith, c.line_count.ensures, n.few) }
 
-pub overflow-cast-result-2 : goal.overflow-cast-result-2
-overflow-cast-result-2 c =
+pub overflow_cast-result-2 : goal.overflow_cast-result-2
+overflow_cast-result-2 c =
     let n = c.args.self.now in
     let s = c.args.k / directions in
     let e = length-lattice n.rows n.columns n.fees n.loss in
-    let below = neighbour_below n.rows n.columns s c.from-number-d.result (omega (arith, c.line-count.ensures)) in
-    let to = c.unwrap-or.ensures ∙ ap (λ o. unwrap_or o s) c.beside-beside.ensures in
+    let below = neighbour_below n.rows n.columns s c.from_number-d.result (omega (arith, c.line_count.ensures)) in
+    let to = c.unwrap_or.ensures ∙ ap (λ o. unwrap_or o s) c.beside-beside.ensures in
     record { fits = omega (arith, n.few) }
 
 pub returns : goal.returns
@@ -37,6 +37,6 @@ returns c =
     let n = c.args.self.now in
     let s = c.args.k / directions in
     let e = length-lattice n.rows n.columns n.fees n.loss in
-    let h : c.args.k < directions * (n.rows * n.columns) = omega (arith, c.line-count.ensures) in
-    ap Some (line_made n.rows n.columns n.fees n.loss s (direction_of (c.args.k % directions)) c.from-number-d.result c.beside-beside.result c.unwrap-or.result c.fee.result c.is-some.result c.from-number-d.ensures c.beside-beside.ensures c.unwrap-or.ensures c.fee.ensures c.is-some.ensures)
+    let h : c.args.k < directions * (n.rows * n.columns) = omega (arith, c.line_count.ensures) in
+    ap Some (line_made n.rows n.columns n.fees n.loss s (direction_of (c.args.k % directions)) c.from_number-d.result c.beside-beside.result c.unwrap_or.result c.fee.result c.is_some.result c.from_number-d.ensures c.beside-beside.ensures c.unwrap_or.ensures c.fee.ensures c.is_some.ensures)
     ∙ sym (slice_get-counted (line_at n.rows n.columns n.fees n.loss) (directions * (n.rows * n.columns)) c.args.k h)

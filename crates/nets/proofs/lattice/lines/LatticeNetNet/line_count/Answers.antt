@@ -6,4 +6,4 @@ use Rattle.nets.proofs.lattice.lines.LatticeNetNet.line_count.Goals as goal
 pub returns : goal.returns
 returns c =
     let n = c.args.self.now in
-    c.lines-from.ensures ∙ ap (λ stations. directions * stations) c.stations.ensures ∙ sym (length-lattice n.rows n.columns n.fees n.loss)
+    c.lines_from.ensures ∙ ap (λ stations. directions * stations) c.stations.ensures ∙ sym (length-lattice n.rows n.columns n.fees n.loss)
