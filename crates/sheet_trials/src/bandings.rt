@@ -54,7 +54,7 @@ fn whole_has_one_level_over_every_kind(rt: HostRuntime) {
     check_bands(&rt, &Whole, &bands);
     for (loss, level, heavy) in bands {
         let banding: &Whole = &Whole;
-        assert_eq!(rt; WholeBanding::<Losses>::level(banding, loss), level);
-        assert_eq!(rt; WholeBanding::<Losses>::heavy(banding, loss), heavy);
+        assert_eq!(rt; <Whole as Banding<Losses>>::level(banding, loss), level);
+        assert_eq!(rt; <Whole as Banding<Losses>>::heavy(banding, loss), heavy);
     }
 }

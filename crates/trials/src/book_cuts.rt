@@ -22,7 +22,7 @@ fn start_before(cut: usize) -> usize {
 fn one_byte_more(rt: HostRuntime) -> Result<(), Fail> {
     let mut book = five_line_book().to_vec(rt.alloc())?;
     book.push(0)?;
-    expect_fault(rt.alloc(), 5, book.as_slice(), (9, 28, "book", None))
+    expect_fault(&rt, rt.alloc(), 5, book.as_slice(), (9, 28, "book", None))
 }
 
 #[test]
@@ -30,7 +30,7 @@ fn cut_at_every_byte(rt: HostRuntime) -> Result<(), Fail> {
     let book = five_line_book();
     for cut in 0..book.len() {
         let line = if cut < 3 { None } else { Some((cut - 3) / 5) };
-        expect_fault(rt.alloc(), 5, &book[0..cut], (1, cut, "number", line))?;
+        expect_fault(&rt, rt.alloc(), 5, &book[0..cut], (1, cut, "number", line))?;
     }
     Ok(())
 }
@@ -44,7 +44,7 @@ fn wide_numbers_cut_at_every_byte(rt: HostRuntime) -> Result<(), Fail> {
             _ => Some(1),
         };
         let want = (1, start_before(cut), "number", line);
-        expect_fault(rt.alloc(), 2, &WIDE[0..cut], want)?;
+        expect_fault(&rt, rt.alloc(), 2, &WIDE[0..cut], want)?;
     }
     Ok(())
 }

@@ -52,12 +52,18 @@ pub(crate) fn fields(line: Line) -> Fields {
     (line.from, line.to, line.fee, line.loss, line.open)
 }
 
-pub(crate) fn check_line(rt: &impl Abort, got: Option<Line>, want: Line) -> Result<(), Fail> {
+// That line k was got, as it is wanted.
+pub(crate) fn check_line(
+    rt: &impl Abort,
+    k: usize,
+    got: Option<Line>,
+    want: Line,
+) -> Result<(), Fail> {
     match got {
         Some(line) => {
-            assert_eq!(rt; fields(line), fields(want));
+            assert_eq!(rt; fields(line), fields(want), "line {k}");
             Ok(())
-        },
+        }
         None => Err(Fail::new("no such line")),
     }
 }
@@ -65,24 +71,23 @@ pub(crate) fn check_line(rt: &impl Abort, got: Option<Line>, want: Line) -> Resu
 pub(crate) fn check_records(rt: &impl Abort, got: &[Line], want: &[Line]) -> Result<(), Fail> {
     assert_eq!(rt; got.len(), want.len());
     for (k, record) in want.iter().enumerate() {
-        check_line(rt, got.get(k).copied(), *record).note(k)?;
+        check_line(rt, k, got.get(k).copied(), *record)?;
     }
     Ok(())
 }
 
 // That each record of a table is the mark.
-pub(crate) fn check_marks(table: &[Line]) -> Result<(), Fail> {
+pub(crate) fn check_marks(rt: &impl Abort, table: &[Line]) {
     for record in table {
-        assert_eq!(fields(*record), fields(MARK));
+        assert_eq!(rt; fields(*record), fields(MARK));
     }
-    Ok(())
 }
 
 // That a net has just these lines.
 pub(crate) fn check_lines<N: Net>(rt: &impl Abort, net: &N, want: &[Line]) -> Result<(), Fail> {
     assert_eq!(rt; net.line_count(), want.len());
     for (k, line) in want.iter().enumerate() {
-        check_line(rt, net.line(k), *line).note(k)?;
+        check_line(rt, k, net.line(k), *line)?;
     }
     assert!(rt; net.line(want.len()).is_none() && net.line(usize::MAX).is_none());
     Ok(())
@@ -100,11 +105,18 @@ pub(crate) fn lines_of<N: Net>(heap: Global, net: &N) -> Result<Vec<Line>, Fail>
 }
 
 // That a book is refused, with room for so many records, and the table stays as it was.
-pub(crate) fn expect_fault(heap: Global, room: usize, book: &[u8], want: Told) -> Result<(), Fail> {
+pub(crate) fn expect_fault(
+    rt: &impl Abort,
+    heap: Global,
+    room: usize,
+    book: &[u8],
+    want: Told,
+) -> Result<(), Fail> {
     let mut table = vec![in heap; MARK; room]?;
     let answer = told(read_book(book, table.as_mut_slice()));
-    assert_eq!(answer.err(), Some(want), "{book:?}");
-    check_marks(table.as_slice())
+    assert_eq!(rt; answer.err(), Some(want), "{book:?}");
+    check_marks(rt, table.as_slice());
+    Ok(())
 }
 
 // The book of a net.

@@ -76,7 +76,7 @@ fn the_last_line_of_the_most(rt: HostRuntime) -> Result<(), Fail> {
         (2_048, Edit::Open(false), Err(12)),
     ];
     make_all(&rt, &mut net, &edits)?;
-    check_line(&rt, net.line(2_047), line(511, 510, 1, 2, false))
+    check_line(&rt, 2_047, net.line(2_047), line(511, 510, 1, 2, false))
 }
 
 // That a net under changes takes edits as a list of the same lines does.

@@ -12,7 +12,7 @@ fn goes_through_a_book(rt: HostRuntime) -> Result<(), Fail> {
     let head = told(reader.head(5))?;
     assert_eq!(rt; (head.stations, head.lines, reader.at), (5, 5, 3));
     for (k, want) in lines.iter().enumerate() {
-        check_line(&rt, reader.record(k, head.stations).ok(), *want)?;
+        check_line(&rt, k, reader.record(k, head.stations).ok(), *want)?;
     }
     assert!(rt; reader.end().is_ok());
     Ok(())

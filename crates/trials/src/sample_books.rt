@@ -14,7 +14,8 @@ fn check_read(rt: &impl Abort, book: &[u8], stations: usize, lines: &[Line]) -> 
     assert!(rt; lines.len() < table.len());
     let (read, others) = table.split_at(lines.len());
     check_records(rt, read, lines)?;
-    check_marks(others)
+    check_marks(rt, others);
+    Ok(())
 }
 
 // That a net of these lines is written as the book, and the bytes beyond it are left.
