@@ -1,6 +1,6 @@
 -- A run of bytes that is accepted is the book of the net that it means. Assumes nothing.
 use Rattle.std.proofs.Common.{◌≡◌, ℕ, zero, suc, ◌+◌, ◌-◌, ◌<◌, ◌≤◌, Bool, true, false, cond, ◌&&◌, eqb, ltb, leb, List, [], ◌∷◌, ◌++◌, length, get_or, take, drop, Ok, Err, Result, sym, refl, ap, ◌∙◌, subst, append_assoc, append-nil, arith, take-append-drop}
-use Rattle.std.specs.List.{flat_map, AllByRecursion as All}
+use Rattle.std.specs.List.{flat_map, AllByRecursion}
 use Rattle.std.proofs.ByRecursion.{All-drop, All-from_get_or}
 use Rattle.std.proofs.lemmas.List.{drop-drop, drop_all, take_at}
 use Rattle.std.proofs.lemmas.Bool.{ltb-true, ltb-false, leb-true, eqb-true, and_parts}
@@ -111,17 +111,17 @@ module _ (book : List ℕ) (bytes : Bytes book) where
       )))
 
   records_back : (left k stations p : ℕ) (x : List Line × ℕ) → records_at left k stations book p ≡ Ok x
-      → Holds book p (flat_map line_numbers x.0) x.1 × All (LineLimits stations) x.0
+      → Holds book p (flat_map line_numbers x.0) x.1 × AllByRecursion (LineLimits stations) x.0
   unfolding record_at
   records_back zero k stations p x e =
-      let P : List Line × ℕ → Type 0 = λ y. Holds book p (flat_map line_numbers y.0) y.1 × All (LineLimits stations) y.0 in
+      let P : List Line × ℕ → Type 0 = λ y. Holds book p (flat_map line_numbers y.0) y.1 × AllByRecursion (LineLimits stations) y.0 in
       subst P (ok_same e) (refl, tt)
   records_back (suc left) k stations p x e =
       then_ok (record_at k stations book p) _ x e (λ first f g.
       then_ok (records_at left (k + 1) stations book first.1) _ x g (λ rest r h.
       let a = fields_back stations p first (inside_ok (in_line k) (fields_at stations book p) first f) in
       let b = records_back left (k + 1) stations first.1 rest r in
-      let P : List Line × ℕ → Type 0 = λ y. Holds book p (flat_map line_numbers y.0) y.1 × All (LineLimits stations) y.0 in
+      let P : List Line × ℕ → Type 0 = λ y. Holds book p (flat_map line_numbers y.0) y.1 × AllByRecursion (LineLimits stations) y.0 in
       subst P (ok_same h) (
         holds_more book p first.1 rest.1 (line_numbers first.0) (flat_map line_numbers rest.0) a.0 b.0,
         (a.1, b.1),

@@ -1,6 +1,6 @@
 -- The book of a net reads back as that net. Assumes nothing.
 use Rattle.std.proofs.Common.{◌≡◌, ℕ, zero, suc, ◌+◌, ◌/◌, ◌%◌, ◌^◌, ◌<◌, ◌≤◌, Bool, true, false, cond, ◌&&◌, eqb, ltb, leb, List, [], ◌∷◌, ◌++◌, length, take, drop, Ok, Err, Result, sym, refl, ap, ◌∙◌, arith, length-drop}
-use Rattle.std.specs.List.{flat_map, AllByRecursion as All}
+use Rattle.std.specs.List.{flat_map, AllByRecursion}
 use Rattle.std.proofs.ByRecursion.{All-append}
 use Rattle.std.proofs.lemmas.List.{drop-drop, drop_at, take_at}
 use Rattle.std.proofs.lemmas.Bool.{lt-ltb, le-ltb, le-leb, ltb-true, and_from, cond-true, cond-false, cond_both}
@@ -75,7 +75,7 @@ module _ (book : List ℕ) where
       (ap (λ (b : Bool). Ok (record { from = l.from; to = l.to; fee = l.fee; loss = l.loss; «open» = b }, p5)) (bit_open l.«open»))) in
       (p5, ap (inside (in_line k)) fields, e.1)
 
-  records_forth : (stations : ℕ) (ls : List Line) (k p : ℕ) → stations ≤ max_stations → All (LineLimits stations) ls → HoldsToEnd book p (flat_map line_numbers ls)
+  records_forth : (stations : ℕ) (ls : List Line) (k p : ℕ) → stations ≤ max_stations → AllByRecursion (LineLimits stations) ls → HoldsToEnd book p (flat_map line_numbers ls)
       → (q : ℕ) × (records_at (length ls) k stations book p ≡ Ok (ls, q)) × HoldsToEnd book q []
   records_forth stations [] k p few m h = (p, refl, h)
   records_forth stations (l ∷ ls) k p few m h =
@@ -129,15 +129,15 @@ encoding_bytes : (n : ℕ) → n < 2 ^ 32 → Bytes (encoding n)
 unfolding encoding
 encoding_bytes n h = groups_bytes 4 n (omega arith)
 
-joined_bytes : (ns : List ℕ) → All (λ n. n < 2 ^ 32) ns → Bytes (flat_map encoding ns)
+joined_bytes : (ns : List ℕ) → AllByRecursion (λ n. n < 2 ^ 32) ns → Bytes (flat_map encoding ns)
 joined_bytes [] h = tt
 joined_bytes (n ∷ ns) h = All-append (λ b. b < 256) (encoding n) (flat_map encoding ns) (encoding_bytes n h.0) (joined_bytes ns h.1)
 
-line_small : (stations : ℕ) (l : Line) → stations ≤ max_stations → LineLimits stations l → All (λ n. n < 2 ^ 32) (line_numbers l)
+line_small : (stations : ℕ) (l : Line) → stations ≤ max_stations → LineLimits stations l → AllByRecursion (λ n. n < 2 ^ 32) (line_numbers l)
 line_small stations l few m =
     (omega (arith, m.from), (omega (arith, m.to), (omega (arith, m.fee), (omega (arith, m.loss), (omega (arith, bit_most l.«open»), tt)))))
 
-lines_small : (stations : ℕ) (ls : List Line) → stations ≤ max_stations → All (LineLimits stations) ls → All (λ n. n < 2 ^ 32) (flat_map line_numbers ls)
+lines_small : (stations : ℕ) (ls : List Line) → stations ≤ max_stations → AllByRecursion (LineLimits stations) ls → AllByRecursion (λ n. n < 2 ^ 32) (flat_map line_numbers ls)
 lines_small stations [] few h = tt
 lines_small stations (l ∷ ls) few h =
     All-append (λ n. n < 2 ^ 32) (line_numbers l) (flat_map line_numbers ls) (line_small stations l few h.0) (lines_small stations ls few h.1)

@@ -1,6 +1,6 @@
 -- That every net has just one book: the statements. Assumes nothing.
 use Rattle.std.specs.Prelude.{◌≡◌, ℕ, ◌<◌, ◌≤◌, List, length, take, Ok}
-use Rattle.std.specs.List.{AllByRecursion as All}
+use Rattle.std.specs.List.{AllByRecursion}
 use Rattle.nets.specs.declared.line.Line.{Line}
 use Rattle.nets.specs.Listed.{listed}
 use Rattle.nets.specs.Model.{Model}
@@ -9,7 +9,7 @@ use Rattle.books.specs.Book.{reading, book_of}
 
 -- A run of bytes.
 abbrev pub Bytes : List ℕ → Type 0
-Bytes = All (λ b. b < 256)
+Bytes = AllByRecursion (λ b. b < 256)
 
 -- A run of bytes reads as a net, into every table that has room for its lines.
 abbrev pub ReadsAs : List ℕ → Model → Type 0

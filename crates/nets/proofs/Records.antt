@@ -1,7 +1,7 @@
 -- What a table of records means: its lines, its edits, and its judging. Assumes nothing.
 use Rattle.std.proofs.Common.{◌≡◌, ℕ, zero, suc, ◌<◌, ◌≤◌, min, true, List, [], ◌∷◌, map, length, get_or, take, set, Some, None, Decides, sym, refl, ap, ◌∙◌, arith, length-take}
 use lib.ListN.{length-map}
-use Rattle.std.specs.List.{AllByRecursion as All, slice_get}
+use Rattle.std.specs.List.{AllByRecursion, slice_get}
 use Rattle.std.proofs.lemmas.List.{map-set, get_or-map, get_or-take, set-get_or, take_all}
 use Rattle.std.proofs.lemmas.Option.{slice_get-get_or, slice_get_past}
 use Rattle.std.proofs.lemmas.Bool.{cond-true, and_from, and_parts, le-leb, leb-true}
@@ -70,7 +70,7 @@ only_none k net =
 decides_line : (n : ℕ) (l : Line) → Decides (line_fits n l) (LineLimits n l)
 decides_line n l = (limits_from_fits n l, fits_from_limits n l)
 
-decides_all : (n : ℕ) (records : List Line) → Decides (all_fit n records) (All (LineLimits n) records)
+decides_all : (n : ℕ) (records : List Line) → Decides (all_fit n records) (AllByRecursion (LineLimits n) records)
 decides_all n records = Decides-by_and (line_fits n) (LineLimits n) (all_fit n) (decides_line n) refl (λ _ _. refl) records
 
 pub sound_from_fits : (n : ℕ) (records : List Line) → net_fits n records ≡ true → Sound (as_given n records)
@@ -82,7 +82,7 @@ pub fits_from_sound : (n : ℕ) (records : List Line) → Sound (as_given n reco
 fits_from_sound n records s =
     and_from _ _ (le-leb _ _ s.some) (and_from _ _ (le-leb _ _ s.few) (and_from _ _ (le-leb _ _ s.short) ((decides_all n records).1 s.each)))
 
-map-seen : (n : ℕ) (records : List Line) → All (LineLimits n) records → map (seen n) records ≡ records
+map-seen : (n : ℕ) (records : List Line) → AllByRecursion (LineLimits n) records → map (seen n) records ≡ records
 map-seen n [] h = refl
 map-seen n (l ∷ ls) h = rw (seen_within n l h.0, map-seen n ls h.1)
 

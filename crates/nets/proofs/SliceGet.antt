@@ -1,6 +1,6 @@
 -- What stands at place k of a list. Assumes nothing.
 use Rattle.std.proofs.Common.{◌≡◌, ℕ, zero, suc, ◌<◌, ◌≤◌, List, [], ◌∷◌, map, length, get_or, Some, None, ap, ◌∙◌, arith}
-use Rattle.std.specs.List.{range_with_len, slice_get, AllByRecursion as All}
+use Rattle.std.specs.List.{range_with_len, slice_get, AllByRecursion}
 use Rattle.std.proofs.lemmas.List.FromFn.{length-map-range_with_len, get_or-map-range_with_len}
 use Rattle.std.proofs.lemmas.Option.{slice_get-get_or, slice_get_past}
 
@@ -19,7 +19,7 @@ value_from_some [] k x e = let z : ◌≡◌ {A = ℕ} 0 1 = cc in absurd (omega
 value_from_some (y ∷ xs) zero x e = cc
 value_from_some (y ∷ xs) (suc k) x e = value_from_some xs k x e
 
-pub All-slice_get : {X : Type 0} (P : X → Type 0) (xs : List X) (k : ℕ) (x : X) → All P xs → slice_get xs k ≡ Some x → P x
+pub All-slice_get : {X : Type 0} (P : X → Type 0) (xs : List X) (k : ℕ) (x : X) → AllByRecursion P xs → slice_get xs k ≡ Some x → P x
 All-slice_get P [] k x a e = let z : ◌≡◌ {A = ℕ} 0 1 = cc in absurd (omega arith)
 All-slice_get P (y ∷ xs) zero x a e = let q : y ≡ x = cc in rw q at a.0
 All-slice_get P (y ∷ xs) (suc k) x a e = All-slice_get P xs k x a.1 e

@@ -1,7 +1,7 @@
 -- That a lattice within its limits is a net within the limits. Assumes nothing.
 use Rattle.std.specs.Prelude.{◌≡◌, ℕ, zero, suc, ◌+◌, ◌-◌, ◌*◌, ◌/◌, ◌%◌, ◌<◌, ◌≤◌, map, length, Option, nat_lt}
 use Rattle.std.proofs.Common.{div-lt_iff_lt-mul, mod-lt, mul-le-mul_right, add-mul, mul-zero, arith}
-use Rattle.std.specs.List.{range_with_len, AllByRecursion as All}
+use Rattle.std.specs.List.{range_with_len, AllByRecursion}
 use Rattle.std.specs.Option.{unwrap_or}
 use Rattle.std.proofs.lemmas.List.FromFn.{length-map-range_with_len}
 use Rattle.std.proofs.lemmas.Bool.{cond_both, ltb-true}
@@ -49,7 +49,7 @@ fee_limit rows columns fees loss South ok = ok.south
 fee_limit rows columns fees loss West ok = ok.west
 fee_limit rows columns fees loss North ok = ok.north
 
-lines_limits : (rows columns : ℕ) (fees : LatticeFees) (loss a n : ℕ) → LatticeLimits rows columns fees loss → a + n ≤ directions * (rows * columns) → All (LineLimits (rows * columns)) (map (line_at rows columns fees loss) (range_with_len a n))
+lines_limits : (rows columns : ℕ) (fees : LatticeFees) (loss a n : ℕ) → LatticeLimits rows columns fees loss → a + n ≤ directions * (rows * columns) → AllByRecursion (LineLimits (rows * columns)) (map (line_at rows columns fees loss) (range_with_len a n))
 lines_limits rows columns fees loss a zero ok h = tt
 lines_limits rows columns fees loss a (suc n) ok h =
     let from : a / directions < rows * columns = omega arith in (

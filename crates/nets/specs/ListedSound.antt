@@ -2,7 +2,7 @@
 use Rattle.std.specs.Prelude.{◌≡◌, ℕ, ◌≤◌, min, List, [], ◌∷◌, map, length, take}
 use Rattle.std.proofs.Common.{arith, length-take}
 use Rattle.std.proofs.lemmas.List.{length-map}
-use Rattle.std.specs.List.{AllByRecursion as All}
+use Rattle.std.specs.List.{AllByRecursion}
 use Rattle.std.proofs.lemmas.Bool.{cond_both}
 use Rattle.nets.specs.declared.line.Line.{Line}
 use Rattle.nets.specs.Model.{LineLimits, Sound, max_lines, line_fits}
@@ -17,7 +17,7 @@ seen_limits n one l =
     cond_both (line_fits n l) l blank_line (LineLimits n) (limits_from_fits n l)
     (λ e. record { from = omega arith; to = omega arith; fee = omega arith; loss = omega arith })
 
-all_limits : (n : ℕ) → 1 ≤ n → (records : List Line) → All (LineLimits n) (map (seen n) records)
+all_limits : (n : ℕ) → 1 ≤ n → (records : List Line) → AllByRecursion (LineLimits n) (map (seen n) records)
 all_limits n one [] = tt
 all_limits n one (l ∷ ls) = (seen_limits n one l, all_limits n one ls)
 

@@ -1,6 +1,6 @@
 -- What a net means, and the limits that every net keeps. Assumes nothing.
 use Rattle.std.specs.Prelude.{ℕ, ◌<◌, ◌≤◌, Bool, ◌&&◌, List, length, nat_le, nat_lt}
-use Rattle.std.specs.List.{AllByRecursion as All}
+use Rattle.std.specs.List.{AllByRecursion}
 use Rattle.nets.specs.declared.line.Line.{Line}
 
 -- A count of stations and a list of lines, both numbered from 0: the nodes and the edges of a directed multigraph.
@@ -34,7 +34,7 @@ pub record Sound (m : Model) : Type 0 where
   pub some : 1 ≤ m.stations
   pub few : m.stations ≤ max_stations
   pub short : length m.lines ≤ max_lines
-  pub each : All (LineLimits m.stations) m.lines
+  pub each : AllByRecursion (LineLimits m.stations) m.lines
 
 -- A fee and a loss within their limits, as a test.
 abbrev pub price_fits : ℕ → ℕ → Bool

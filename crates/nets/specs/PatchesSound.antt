@@ -1,7 +1,7 @@
 -- That changes leave a net within the limits. Assumes nothing.
 use Rattle.std.specs.Prelude.{◌≡◌, ℕ, suc, ◌≤◌, List, [], ◌∷◌, length, nat_le, refl}
 use Rattle.std.proofs.Common.{ap}
-use Rattle.std.specs.List.{AllByRecursion as All}
+use Rattle.std.specs.List.{AllByRecursion}
 use Rattle.std.proofs.lemmas.Bool.{cond_both, leb-true}
 use Rattle.nets.specs.declared.line.Line.{Line}
 use Rattle.nets.specs.declared.patched.Change.{Change}
@@ -21,7 +21,7 @@ patch_limits n c l h = record {
   loss = cond_both (nat_le c.loss max_loss) c.loss l.loss (λ x. x ≤ max_loss) (leb-true _ _) (λ _. h.loss);
 }
 
-all_patched : (n : ℕ) (cs : List Change) (ls : List Line) → All (LineLimits n) ls → All (LineLimits n) (patch_lines cs ls)
+all_patched : (n : ℕ) (cs : List Change) (ls : List Line) → AllByRecursion (LineLimits n) ls → AllByRecursion (LineLimits n) (patch_lines cs ls)
 all_patched n cs [] h = tt
 all_patched n [] (l ∷ ls) h = h
 all_patched n (c ∷ cs) (l ∷ ls) h = (patch_limits n c l h.0, all_patched n cs ls h.1)
