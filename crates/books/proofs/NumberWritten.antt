@@ -1,6 +1,6 @@
 -- The groups of a number one after another, as the loop that writes it goes. Assumes nothing.
 use Rattle.std.proofs.Common.{◌≡◌, ℕ, zero, suc, ◌+◌, ◌-◌, ◌*◌, ◌/◌, ◌%◌, ◌^◌, ◌<◌, ◌≤◌, List, [], ◌∷◌, ◌++◌, length, get_or, drop, set, sym, refl, ap, ◌∙◌, add-zero, arith, length-append, length-drop}
-use lib.Seq.{paste}
+use Rattle.std.proofs.Math.Seq.{paste}
 use Rattle.std.proofs.lemmas.List.{drop-drop, get_or-drop}
 use Rattle.std.proofs.lemmas.List.Edits.{paste_more, paste-paste, length-paste}
 use Rattle.std.proofs.lemmas.Bool.Decides.{nat_tests}

@@ -1,5 +1,5 @@
 -- The line book: what a run of bytes is read as, and the book of a net. Assumes nothing.
-use Rattle.std.specs.Prelude.{ℕ, cond, ◌&&◌, leb, List, [], ◌∷◌, ◌++◌, length, drop, Ok, Err, Result, nat_eq, nat_le, nat_lt}
+use Rattle.std.specs.Prelude.{ℕ, cond, ◌&&◌, List, [], ◌∷◌, ◌++◌, length, drop, Ok, Err, Result, ◌==◌, nat_le, nat_lt}
 use Rattle.std.specs.List.{flat_map}
 use Rattle.nets.specs.declared.line.Line.{Line}
 use Rattle.nets.specs.declared.refusal.Refusal.{Refusal}
@@ -14,7 +14,7 @@ use Rattle.books.specs.Records.{records_at, line_numbers}
 
 -- The edition is 1.
 abbrev pub edition_at : List ℕ → ℕ → Result (ℕ × ℕ) BookFault
-edition_at = field_at HeadNumber (λ n. nat_eq n 1) Edition
+edition_at = field_at HeadNumber (λ n. n == 1) Edition
 
 -- The stations are within the limits of a net.
 abbrev pub stations_at : List ℕ → ℕ → Result (ℕ × ℕ) BookFault
@@ -23,7 +23,7 @@ stations_at = field_at HeadNumber (λ n. nat_lt 0 n && nat_le n max_stations) He
 -- A count of lines is judged by the limits of a net, and then by the room of the table.
 abbrev pub lines_at : (room : ℕ) → List ℕ → ℕ → Result (ℕ × ℕ) BookFault
 lines_at room book p =
-    and_then (field_at HeadNumber (λ n. leb n max_lines) HeadLimit book p) (λ lines.
+    and_then (field_at HeadNumber (λ n. nat_le n max_lines) HeadLimit book p) (λ lines.
     cond (nat_le lines.0 room) (Ok lines) (Err (TableShort p)))
 
 -- The head: edition, stations, lines.

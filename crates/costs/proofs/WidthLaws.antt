@@ -1,6 +1,6 @@
 -- The laws of levels of one width. Assumes nothing.
 use Rattle.std.proofs.Common.{◌≡◌, ℕ, ◌+◌, ◌/◌, ◌<◌, ◌≤◌, ⊎_elim, le_trans, div-mul-le_self, arith}
-use native.Mathlib.Nat.{add-div_right}
+use Rattle.std.proofs.Math.Nat.{add-div_right}
 use Rattle.std.proofs.lemmas.Nat.{le-div}
 use Rattle.std.proofs.lemmas.Bool.{leb-true, ltb-true, cases_lt}
 use Rattle.costs.specs.Largest.{largest}

@@ -8,7 +8,7 @@ use Rattle.costs.specs.declared.amount.Amount.{Amount}
 use Rattle.costs.specs.Amounts.{amount, losses}
 use Rattle.sheets.specs.Verdict.{all_below, leads_back}
 use Rattle.figures.specs.Costs.{NoWidthOfLosses}
-use Rattle.figures.specs.Figures.{Figures}
+use Rattle.figures.specs.Figures.{Figures, SheetFigures}
 
 -- the level of d + 1 would be below itself
 no_width_of_losses : NoWidthOfLosses
@@ -20,11 +20,12 @@ no_width_of_losses d few laws =
     omega arith
 
 pub figures : Figures
-unfolding encoding fields_at record_at head_at reading book_of all_below leads_back
-figures = record {
-  numbers = (refl, (refl, (refl, (refl, tt))));
-  read = refl;
-  written = refl;
+unfolding encoding fields_at record_at head_at reading book_of
+figures = record { numbers = (refl, (refl, (refl, (refl, tt)))); read = refl; written = refl }
+
+pub sheet_figures : SheetFigures
+unfolding all_below leads_back
+sheet_figures = record {
   sums = (refl, (refl, tt));
   no_width_of_losses = no_width_of_losses;
   checks = (refl, (refl, tt));

@@ -13,6 +13,9 @@ pub record Figures : Type 0 where
   -- the example's book reads as its net, into a table with room for just its lines, and is that net's book
   pub read : reading 5 five_line_book ≡ Ok five_lines
   pub written : book_of five_lines ≡ five_line_book
+
+-- The worked figures of costs and of sheets.
+pub record SheetFigures : Type 0 where
   -- each sum of fees in the table is as it says
   pub sums : AllByRecursion SumGiven sum_figures
   pub no_width_of_losses : NoWidthOfLosses

@@ -2,14 +2,15 @@
 #![tactic(auto)]
 
 ghost use Rattle.std.specs.Prelude.{◌≡◌};
-ghost use Rattle.figures.specs.Figures.{Figures};
+ghost use Rattle.figures.specs.Figures.{Figures, SheetFigures};
 ghost use Rattle.figures.specs.FiveLines.{open_line, five_lines, five_line_book};
 
 use nets::Line;
 
 // A theorem: the definitions that the library's contracts cite give the worked figures.
 pub fn figures_hold()
-    ensures { Figures }
+    ensures books { Figures }
+    ensures sheets { SheetFigures }
 {}
 
 // The lines of the five-line example, a net of five stations.

@@ -1,7 +1,7 @@
 -- A right sheet is right for one gateway only, shows routes at the costs of its rows, and shares every cost with the right sheets of nets with the same
 -- lines. Assumes nothing.
 use Rattle.std.proofs.Common.{◌≡◌, ℕ, ◌<◌, List, [], ◌∷◌, reverse, get_or, sym, refl, ap, ◌∙◌, subst, ⊎_elim}
-use mathlib.Core.List.{reverse-reverse}
+use Rattle.std.proofs.lemmas.List.{reverse-reverse}
 use Rattle.std.specs.List.Sorted.{IsPermutation}
 use Rattle.std.proofs.ByRecursion.{has_get_or, has_shuffled}
 use Rattle.std.proofs.lemmas.List.Sorted.{IsPermutation-sym}

@@ -19,7 +19,8 @@ fn request<K: CostKind>(rows: &[Row<K::Cost>], line: Line) -> K::Cost
 
 // Whether a line is relaxed: its request is not below the cost of its to station.
 fn is_relaxed<K: CostKind>(rows: &[Row<K::Cost>], line: Line) -> bool
-    requires { (line.from < length rows.now) × (line.to < length rows.now) }
+    requires from { line.from < length rows.now }
+    requires to { line.to < length rows.now }
     ensures { result ≡ relaxed K.CostKind.ops (sheet K.CostKind rows.now) (edge_of K.CostKind.ops line) }
 {
     K::at_most(
@@ -30,7 +31,8 @@ fn is_relaxed<K: CostKind>(rows: &[Row<K::Cost>], line: Line) -> bool
 
 // Whether a line leads into station v, and its request is the cost of v.
 pub(crate) fn is_tight_into<K: CostKind>(rows: &[Row<K::Cost>], v: usize, line: Line) -> bool
-    requires { (line.from < length rows.now) × (v < length rows.now) }
+    requires from { line.from < length rows.now }
+    requires station { v < length rows.now }
     ensures { result ≡ tight_into K.CostKind.ops (sheet K.CostKind rows.now) v (edge_of K.CostKind.ops line) }
 {
     (line.to as usize == v) & same_cost::<K>(request::<K>(rows, line), cost_at::<K>(rows, v))

@@ -1,5 +1,5 @@
-use Rattle.figures.proofs.Given.{figures}
+use Rattle.figures.proofs.Given.{figures, sheet_figures}
 use Rattle.figures.proofs.figures_hold.Goals as goal
 
 pub returns : goal.returns
-returns c = figures
+returns c = record { books = figures; sheets = sheet_figures }

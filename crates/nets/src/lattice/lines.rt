@@ -63,7 +63,8 @@ impl LatticeNet {
 
     // The station in a row and a column.
     fn station(&self, row: usize, column: usize) -> usize
-        requires { (row < self.now.rows) × (column < self.now.columns) }
+        requires row { row < self.now.rows }
+        requires column { column < self.now.columns }
         ensures { result ≡ station_at self.now.columns row column }
     {
         row * self.columns + column

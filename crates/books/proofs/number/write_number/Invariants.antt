@@ -1,5 +1,5 @@
 use Rattle.std.proofs.Common.{◌≡◌}
-use lib.Seq.{paste}
+use Rattle.std.proofs.Math.Seq.{paste}
 use Rattle.books.specs.Number.{encoding}
 use Rattle.books.proofs.NumberWritten.{Left}
 use Rattle.books.proofs.number.write_number.Given as goal

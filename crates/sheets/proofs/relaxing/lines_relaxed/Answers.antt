@@ -16,7 +16,7 @@ is_relaxed-requires g c =
     let at = line_at (g.N.Net.meant n) (g.N.Net.sound n) c.loop-k.k c.in-Some.line (sym c.line.ensures ∙ c.in-Some.is) in
     let from = at.limits.from in
     let to = at.limits.to in
-    (omega (arith, c.requires), omega (arith, c.requires))
+    record { from = omega (arith, c.requires); to = omega (arith, c.requires) }
 
 pub returns-then-not-is_relaxed : goal.returns-then-not-is_relaxed
 returns-then-not-is_relaxed g c =

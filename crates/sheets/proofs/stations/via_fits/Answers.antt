@@ -11,7 +11,7 @@ is_tight_into-requires g c =
     let n = c.args.net.now in
     let at = line_at (g.N.Net.meant n) (g.N.Net.sound n) c.args.k c.in-Some.line (sym c.line.ensures ∙ c.in-Some.is) in
     let from = at.limits.from in
-    (omega (arith, c.requires.rows), c.requires.station)
+    record { from = omega (arith, c.requires.rows); station = c.requires.station }
 
 pub returns-in-Some : goal.returns-in-Some
 returns-in-Some g c =
