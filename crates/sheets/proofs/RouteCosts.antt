@@ -1,5 +1,5 @@
 -- Routes one line longer, and least costs by what leads to a station. Assumes nothing.
-use Rattle.std.proofs.Common.{◌≡◌, ℕ, ◌<◌, ◌⊎◌, List, [], ◌∷◌, ◌++◌, sym, refl, ◌∙◌, inl, inr, ⊎_elim}
+use Rattle.std.proofs.Common.{◌≡◌, ℕ, ◌<◌, List, [], ◌∷◌, ◌++◌, sym, refl, ◌∙◌, inl, inr, ⊎_elim}
 use Rattle.costs.specs.Kind.{Costs, Laws, AtMost}
 use Rattle.costs.proofs.Order
 use Rattle.sheets.specs.Graph.{Graph}

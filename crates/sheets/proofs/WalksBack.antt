@@ -1,5 +1,5 @@
 -- Following vias back: what `leads_back` says, and that as many stations as there are suffice. Assumes nothing.
-use Rattle.std.proofs.Common.{◌≡◌, ℕ, zero, suc, ◌+◌, ◌-◌, ◌<◌, ◌≤◌, Bool, true, false, eqb, ltb, ◌⊎◌, List, [], ◌∷◌, length, Some, None, Option, sym, refl, ap, ◌∙◌, subst, ⊎_elim, arith}
+use Rattle.std.proofs.Common.{◌≡◌, ℕ, zero, suc, ◌+◌, ◌-◌, ◌<◌, ◌≤◌, Bool, true, false, eqb, ltb, List, [], ◌∷◌, length, Some, None, Option, sym, refl, ap, ◌∙◌, subst, ⊎_elim, arith}
 use Rattle.std.proofs.lemmas.Bool.{both_ways, cases_Bool, cases_lt, cond-true, cond-false, or_left, or_right, or_cases, or_from, eqb-true, eq-eqb, ne_eqb, ltb-true, lt-ltb}
 use Rattle.sheets.specs.Graph.{Graph}
 use Rattle.sheets.specs.Sheet.{Sheet, Back}
