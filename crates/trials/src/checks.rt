@@ -59,13 +59,8 @@ pub(crate) fn check_line(
     got: Option<Line>,
     want: Line,
 ) -> Result<(), Fail> {
-    match got {
-        Some(line) => {
-            assert_eq!(rt; fields(line), fields(want), "line {k}");
-            Ok(())
-        }
-        None => Err(Fail::new("no such line")),
-    }
+    assert_eq!(rt; got.map(fields), Some(fields(want)), "line {k}");
+    Ok(())
 }
 
 pub(crate) fn check_records(rt: &impl Abort, got: &[Line], want: &[Line]) -> Result<(), Fail> {
