@@ -4,12 +4,13 @@ use Rattle.std.proofs.Math.Seq.{paste}
 use Rattle.std.specs.List.{flat_map, slice_get}
 use Rattle.std.proofs.lemmas.List.{take_more, take_all}
 use Rattle.std.proofs.lemmas.List.Edits.{paste_none, length-paste}
-use Rattle.nets.proofs.SliceGet.{inside_from_some, value_from_some, past_from_none}
+use Rattle.std.proofs.lemmas.Option.{slice_get_within, get_or_from_slice_get}
+use Rattle.nets.proofs.SliceGet.{past_from_none}
 use Rattle.books.proofs.NumberWritten.{paste_both}
 
 -- what a look at place k of a list tells
 pub slice_get-inside : {X : Type 0} (xs : List X) (k : ℕ) (x : X) → Some x ≡ slice_get xs k → (k < length xs) × (x ≡ get_or xs k x)
-slice_get-inside xs k x e = (inside_from_some xs k x (sym e), value_from_some xs k x (sym e))
+slice_get-inside xs k x e = (slice_get_within xs k x (sym e), sym (get_or_from_slice_get xs k x x (sym e)))
 
 pub slice_get-outside : {X : Type 0} (xs : List X) (k : ℕ) → None ≡ slice_get xs k → length xs ≤ k
 slice_get-outside xs k e = past_from_none xs k (sym e)

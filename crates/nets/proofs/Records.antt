@@ -3,7 +3,7 @@ use Rattle.std.proofs.Common.{◌≡◌, ℕ, zero, suc, ◌<◌, ◌≤◌, min
 use Rattle.std.proofs.lemmas.List.{length-map}
 use Rattle.std.specs.List.{AllByRecursion, slice_get}
 use Rattle.std.proofs.lemmas.List.{map-set, get_or-map, get_or-take, set-get_or, take_all}
-use Rattle.std.proofs.lemmas.Option.{slice_get-get_or, slice_get_past}
+use Rattle.std.proofs.lemmas.Option.{slice_get-get_or, slice_get_past, slice_get_within}
 use Rattle.std.proofs.lemmas.Bool.{cond-true, and_from, and_parts, le-leb, leb-true}
 use Rattle.std.proofs.ByRecursion.{Decides-by_and}
 use Rattle.nets.specs.declared.line.Line.{Line}
@@ -15,7 +15,7 @@ use Rattle.nets.specs.Only.{OnlyRecord}
 use Rattle.nets.specs.Listed.{stations_of, blank_line, seen, listed, as_given, all_fit, net_fits}
 use Rattle.nets.specs.ListedSound.{length-listed, sound_listed}
 use Rattle.nets.proofs.Edits.{changed_some}
-use Rattle.nets.proofs.SliceGet.{All-slice_get, inside_from_some}
+use Rattle.nets.proofs.SliceGet.{All-slice_get}
 
 -- line k
 
@@ -32,7 +32,7 @@ slice_get-listed_past n records k h = slice_get_past _ k (rw (length-listed n re
 
 pub inside_records : (n : ℕ) (records : List Line) (k : ℕ) (l : Line) → slice_get (listed n records).lines k ≡ Some l → (k < length records) × (k < max_lines)
 inside_records n records k l e =
-    let h = inside_from_some (listed n records).lines k l e in let m = length-listed n records in (omega arith, omega arith)
+    let h = slice_get_within (listed n records).lines k l e in let m = length-listed n records in (omega arith, omega arith)
 
 pub line_limits : (n : ℕ) (records : List Line) (k : ℕ) (l : Line) → slice_get (listed n records).lines k ≡ Some l → LineLimits (stations_of n) l
 line_limits n records k l e = All-slice_get (LineLimits (stations_of n)) (listed n records).lines k l (sound_listed n records).each e

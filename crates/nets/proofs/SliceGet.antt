@@ -1,28 +1,31 @@
 -- What stands at place k of a list. Assumes nothing.
-use Rattle.std.proofs.Common.{◌≡◌, ℕ, zero, suc, ◌<◌, ◌≤◌, List, [], ◌∷◌, map, length, get_or, Some, None, ap, ◌∙◌, arith}
+use Rattle.std.proofs.Common.{◌≡◌, ℕ, zero, suc, ◌+◌, ◌<◌, ◌≤◌, List, [], ◌∷◌, map, length, drop, Some, None, ap, ◌∙◌, add-one, arith}
 use Rattle.std.specs.List.{range_with_len, slice_get, AllByRecursion}
+use Rattle.std.proofs.lemmas.List.{drop_all}
 use Rattle.std.proofs.lemmas.List.FromFn.{length-map-range_with_len, get_or-map-range_with_len}
-use Rattle.std.proofs.lemmas.Option.{slice_get-get_or, slice_get_past}
+use Rattle.std.proofs.lemmas.Option.{slice_get-get_or, slice_get_past, slice_get_within}
 
 pub past_from_none : {X : Type 0} (xs : List X) (k : ℕ) → slice_get xs k ≡ None → length xs ≤ k
 past_from_none [] k e = omega arith
-past_from_none (x ∷ xs) zero e = let z : ◌≡◌ {A = ℕ} 0 1 = cc in omega arith
+past_from_none (x ∷ xs) zero e = cc
 past_from_none (x ∷ xs) (suc k) e = let h = past_from_none xs k e in omega arith
 
-pub inside_from_some : {X : Type 0} (xs : List X) (k : ℕ) (x : X) → slice_get xs k ≡ Some x → k < length xs
-inside_from_some [] k x e = let z : ◌≡◌ {A = ℕ} 0 1 = cc in omega arith
-inside_from_some (y ∷ xs) zero x e = omega arith
-inside_from_some (y ∷ xs) (suc k) x e = let h = inside_from_some xs k x e in omega arith
-
-pub value_from_some : {X : Type 0} (xs : List X) (k : ℕ) (x : X) → slice_get xs k ≡ Some x → x ≡ get_or xs k x
-value_from_some [] k x e = let z : ◌≡◌ {A = ℕ} 0 1 = cc in absurd (omega arith)
-value_from_some (y ∷ xs) zero x e = cc
-value_from_some (y ∷ xs) (suc k) x e = value_from_some xs k x e
-
 pub All-slice_get : {X : Type 0} (P : X → Type 0) (xs : List X) (k : ℕ) (x : X) → AllByRecursion P xs → slice_get xs k ≡ Some x → P x
-All-slice_get P [] k x a e = let z : ◌≡◌ {A = ℕ} 0 1 = cc in absurd (omega arith)
+All-slice_get P [] k x a e = cc
 All-slice_get P (y ∷ xs) zero x a e = let q : y ≡ x = cc in rw q at a.0
 All-slice_get P (y ∷ xs) (suc k) x a e = All-slice_get P xs k x a.1 e
+
+-- what is left from place k on
+drop_suc : {X : Type 0} (xs : List X) (k : ℕ) (x : X) → slice_get xs k ≡ Some x → drop k xs ≡ x ∷ drop (suc k) xs
+drop_suc [] k x e = cc
+drop_suc (y ∷ xs) zero x e = let q : y ≡ x = cc in ap (λ z. z ∷ xs) q
+drop_suc (y ∷ xs) (suc k) x e = drop_suc xs k x e
+
+pub drop_from_some : {X : Type 0} (xs : List X) (k : ℕ) (x : X) → slice_get xs k ≡ Some x → drop k xs ≡ x ∷ drop (k + 1) xs
+drop_from_some xs k x e = rw (add-one k) (drop_suc xs k x e)
+
+pub drop_from_none : {X : Type 0} (xs : List X) (k : ℕ) → slice_get xs k ≡ None → drop k xs ≡ []
+drop_from_none xs k e = drop_all k xs (past_from_none xs k e)
 
 -- a list made from a function of the place
 
@@ -32,3 +35,6 @@ slice_get-counted f n k h =
 
 pub slice_get-counted_past : {X : Type 0} (f : ℕ → X) (n k : ℕ) → n ≤ k → slice_get (map f (range_with_len 0 n)) k ≡ None
 slice_get-counted_past f n k h = slice_get_past (map f (range_with_len 0 n)) k (rw (length-map-range_with_len f 0 n) h)
+
+-- a step through a list by places
+pub ruleset line_steps = (drop_from_some, drop_from_none, slice_get_within)

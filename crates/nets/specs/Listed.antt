@@ -1,5 +1,6 @@
 -- What a count of stations and a table of records mean, and when they are a net as given. Assumes nothing.
-use Rattle.std.specs.Prelude.{ℕ, min, max, Bool, true, false, cond, ◌&&◌, List, [], ◌∷◌, map, length, take, Ok, Err, Result, nat_le}
+use Rattle.std.specs.Prelude.{ℕ, min, max, Bool, false, cond, ◌&&◌, List, map, length, take, Ok, Err, Result, nat_le}
+use Rattle.std.specs.List.{list_all}
 use Rattle.nets.specs.declared.line.Line.{Line}
 use Rattle.nets.specs.declared.refusal.Refusal.{Refusal}
 use Rattle.nets.specs.declared.refusal.Refusal.TheVariants.{NetLimit}
@@ -27,8 +28,7 @@ as_given n records = record { stations = n; lines = records }
 
 -- Whether each record is within the limits of a line.
 abbrev pub all_fit : ℕ → List Line → Bool
-all_fit stations [] = true
-all_fit stations (l ∷ ls) = line_fits stations l && all_fit stations ls
+all_fit stations = list_all (line_fits stations)
 
 -- Whether the stations and the records as given are within the limits of a net.
 abbrev pub net_fits : ℕ → List Line → Bool

@@ -1,5 +1,4 @@
-ghost use Rattle.std.specs.Prelude.{◌*◌, ◌≤◌};
-ghost use Rattle.nets.specs.Model.{max_stations, max_fee, max_loss};
+ghost use Rattle.nets.specs.Lattice.{LatticeLimits};
 
 mod directions;
 mod lines;
@@ -14,11 +13,5 @@ pub struct LatticeNet {
     columns: usize,
     fees: LatticeFees,
     loss: u32,
-    ghost some: { 1 ≤ rows * columns },
-    ghost few: { rows * columns ≤ max_stations },
-    ghost east: { fees.east ≤ max_fee },
-    ghost south: { fees.south ≤ max_fee },
-    ghost west: { fees.west ≤ max_fee },
-    ghost north: { fees.north ≤ max_fee },
-    ghost lost: { loss ≤ max_loss },
+    ghost limits: { LatticeLimits rows columns fees loss },
 }

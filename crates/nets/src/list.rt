@@ -1,13 +1,11 @@
-ghost use Rattle.std.specs.Prelude.{◌≡◌, min, length, Ok};
+ghost use Rattle.std.specs.Prelude.{◌≡◌, min, length};
 ghost use Rattle.nets.specs.Model.{max_lines, Sound};
-ghost use Rattle.nets.specs.Edits.{with_price, with_open};
 ghost use Rattle.nets.specs.Only.{OnlyRecord};
-ghost use Rattle.nets.specs.Listed.{listed, seen, as_given, all_fit, net_fits, judged};
+ghost use Rattle.nets.specs.Listed.{listed, as_given, net_fits, judged};
 ghost use Rattle.nets.specs.ListedSound.{sound_listed};
 
-use crate::fits::{line_fits, price_fits};
 use crate::limits::{MAX_LINES, MAX_STATIONS};
-use crate::line::{BLANK_LINE, Line};
+use crate::line::{Line, price_fits};
 use crate::net::{EditableNet, Net};
 use crate::refusal::Refusal;
 
@@ -53,20 +51,9 @@ impl<'a> ListNet<'a> {
 fn net_fits(stations: usize, records: &[Line]) -> bool
     ensures { result ≡ net_fits stations records.now }
 {
-    let counts_fit = (1 <= stations) & (stations <= MAX_STATIONS) & (records.len() <= MAX_LINES);
-    counts_fit && all_fit(stations, records)
-}
-
-// Whether each record is within the limits of a line.
-fn all_fit(stations: usize, records: &[Line]) -> bool
-    ensures { result ≡ all_fit stations records.now }
-{
-    for l in records {
-        if !line_fits(stations, *l) {
-            return false;
-        }
-    }
-    true
+    (1..=MAX_STATIONS).contains(&stations)
+        && records.len() <= MAX_LINES
+        && records.iter().all(|record| record.fits(stations))
 }
 
 // How many of the records a net reads.
@@ -76,38 +63,13 @@ fn read_count(records: &[Line]) -> usize
     records.len().min(MAX_LINES)
 }
 
-// A record as a net of that many stations reads it.
-fn read(stations: usize, l: Line) -> Line
-    ensures { result ≡ seen stations l }
-{
-    if line_fits(stations, l) {
-        l
-    } else {
-        BLANK_LINE
-    }
-}
-
-// A line with another fee and loss.
-fn with_price(l: Line, fee: u32, loss: u32) -> Line
-    ensures { result ≡ with_price fee loss l }
-{
-    Line { fee, loss, ..l }
-}
-
-// A line opened or shut.
-fn with_open(l: Line, open: bool) -> Line
-    ensures { result ≡ with_open «open» l }
-{
-    Line { open, ..l }
-}
-
 impl<'a> Net for ListNet<'a> {
     ghost meant = { λ n. listed n.count n.records.now };
 
     ghost sound = { λ n. sound_listed n.count n.records.now };
 
     fn stations(&self) -> usize {
-        self.count.max(1).min(MAX_STATIONS)
+        self.count.clamp(1, MAX_STATIONS)
     }
 
     fn line_count(&self) -> usize {
@@ -116,7 +78,7 @@ impl<'a> Net for ListNet<'a> {
 
     fn line(&self, k: usize) -> Option<Line> {
         if k < self.line_count() {
-            Some(read(self.stations(), self.records[k]))
+            Some(self.records[k].read(self.stations()))
         } else {
             None
         }
@@ -127,21 +89,17 @@ impl<'a> EditableNet for ListNet<'a> {
     ghost only = { OnlyRecord };
 
     fn set_price(&mut self, k: usize, fee: u32, loss: u32) -> Result<(), Refusal> {
-        let Some(l) = self.line(k) else {
-            return Err(Refusal::NoSuchLine);
-        };
+        let line = self.line(k).ok_or(Refusal::NoSuchLine)?;
         if !price_fits(fee, loss) {
             return Err(Refusal::PriceLimit);
         }
-        self.records[k] = with_price(l, fee, loss);
+        self.records[k] = line.with_price(fee, loss);
         Ok(())
     }
 
     fn set_open(&mut self, k: usize, open: bool) -> Result<(), Refusal> {
-        let Some(l) = self.line(k) else {
-            return Err(Refusal::NoSuchLine);
-        };
-        self.records[k] = with_open(l, open);
+        let line = self.line(k).ok_or(Refusal::NoSuchLine)?;
+        self.records[k] = line.with_open(open);
         Ok(())
     }
 }

@@ -4,9 +4,8 @@ ghost use Rattle.nets.specs.Only.{OnlyChange};
 ghost use Rattle.nets.specs.Patches.{patch_line, ChangesNothing, change_price, change_open, patched};
 ghost use Rattle.nets.specs.PatchesSound.{sound_patched};
 
-use crate::fits::price_fits;
 use crate::limits::{MAX_FEE, MAX_LINES, MAX_LOSS};
-use crate::line::Line;
+use crate::line::{Line, price_fits};
 use crate::net::{EditableNet, Net};
 use crate::refusal::Refusal;
 
@@ -51,17 +50,14 @@ impl Change {
     fn apply(self, l: Line) -> Line
         ensures { result ≡ patch_line self l }
     {
-        let fee = if self.fee <= MAX_FEE { self.fee } else { l.fee };
-        let loss = if self.loss <= MAX_LOSS {
-            self.loss
-        } else {
-            l.loss
-        };
-        let open = self.open.unwrap_or(l.open);
         Line {
-            fee,
-            loss,
-            open,
+            fee: if self.fee <= MAX_FEE { self.fee } else { l.fee },
+            loss: if self.loss <= MAX_LOSS {
+                self.loss
+            } else {
+                l.loss
+            },
+            open: self.open.unwrap_or(l.open),
             ..l
         }
     }
@@ -80,8 +76,7 @@ impl PatchTable {
         ensures value { result ≡ slice_index_or self.now.changes k result }
         ensures size { length self.now.changes ≡ max_lines }
     {
-        let all: &[Change] = &self.changes;
-        all[k]
+        self.changes[k]
     }
 }
 
@@ -98,20 +93,11 @@ impl<N: Net> PatchedNet<N> {
         ensures net { result.net ≡ net }
         ensures meaning { patched result.table.changes (N.Net.meant result.net) ≡ N.Net.meant net }
     {
-        let none = Change::none();
+        let changes = [Change::none(); MAX_LINES];
         PatchedNet {
             net,
-            table: PatchTable {
-                changes: [none; MAX_LINES],
-            },
+            table: PatchTable { changes },
         }
-    }
-
-    // How many lines the net beneath has.
-    fn lines_beneath(&self) -> usize
-        ensures { result ≡ length (N.Net.meant self.now.net).lines }
-    {
-        self.net.line_count()
     }
 }
 
@@ -124,15 +110,14 @@ impl<N: Net> Net for PatchedNet<N> {
         self.net.stations()
     }
 
+    #[tactic(auto, using(crate::specs::PatchesSound::patched_lengths))]
     fn line_count(&self) -> usize {
-        self.lines_beneath()
+        self.net.line_count()
     }
 
     fn line(&self, k: usize) -> Option<Line> {
-        match self.net.line(k) {
-            Some(l) => Some(self.table.at(k).apply(l)),
-            None => None,
-        }
+        let line = self.net.line(k)?;
+        Some(self.table.at(k).apply(line))
     }
 }
 
@@ -140,23 +125,21 @@ impl<N: Net> EditableNet for PatchedNet<N> {
     ghost only = { OnlyChange };
 
     fn set_price(&mut self, k: usize, fee: u32, loss: u32) -> Result<(), Refusal> {
-        if k >= self.lines_beneath() {
+        if k >= self.line_count() {
             return Err(Refusal::NoSuchLine);
         }
         if !price_fits(fee, loss) {
             return Err(Refusal::PriceLimit);
         }
-        let c = self.table.at(k);
-        self.table.changes[k] = c.with_price(fee, loss);
+        self.table.changes[k] = self.table.at(k).with_price(fee, loss);
         Ok(())
     }
 
     fn set_open(&mut self, k: usize, open: bool) -> Result<(), Refusal> {
-        if k >= self.lines_beneath() {
+        if k >= self.line_count() {
             return Err(Refusal::NoSuchLine);
         }
-        let c = self.table.at(k);
-        self.table.changes[k] = c.with_open(open);
+        self.table.changes[k] = self.table.at(k).with_open(open);
         Ok(())
     }
 }

@@ -1,12 +1,12 @@
 -- What a net answers for line k, and line k of its graph. Assumes nothing.
 use Rattle.std.proofs.Common.{◌≡◌, ℕ, ◌<◌, length, get_or, Some, None, sym, ap, ◌∙◌}
 use Rattle.std.specs.List.{slice_get}
-use Rattle.std.proofs.lemmas.List.{get_or_read}
 use Rattle.std.proofs.lemmas.Bool.{cond-true, cond-false, lt-ltb, le-ltb}
 use Rattle.nets.specs.declared.line.Line.{Line}
 use Rattle.nets.specs.Listed.{blank_line}
 use Rattle.nets.specs.Model.{Model, LineLimits, Sound}
-use Rattle.nets.proofs.SliceGet.{All-slice_get, inside_from_some, past_from_none, value_from_some}
+use Rattle.std.proofs.lemmas.Option.{slice_get_within, get_or_from_slice_get}
+use Rattle.nets.proofs.SliceGet.{All-slice_get, past_from_none}
 use Rattle.costs.specs.Kind.{Costs}
 use Rattle.sheets.specs.Graph.{edge_of, graph_of}
 use Rattle.sheets.specs.Verdict.{before}
@@ -19,10 +19,10 @@ pub record LineAt (m : Model) (k : ℕ) (l : Line) : Type 0 where
 
 pub line_at : (m : Model) → Sound m → (k : ℕ) (l : Line) → slice_get m.lines k ≡ Some l → LineAt m k l
 line_at m sound k l e =
-    let counts = inside_from_some m.lines k l e in
+    let counts = slice_get_within m.lines k l e in
     record {
       counts = counts;
-      is = get_or_read m.lines k l counts (value_from_some m.lines k l e) blank_line;
+      is = sym (get_or_from_slice_get m.lines k l blank_line e);
       limits = All-slice_get (LineLimits m.stations) m.lines k l sound.each e;
     }
 

@@ -15,10 +15,8 @@ use crate::refusal::Refusal;
 fn size_fits(rows: usize, columns: usize) -> bool
     ensures { result ≡ size_fits rows columns }
 {
-    match rows.checked_mul(columns) {
-        Some(stations) => (1 <= stations) & (stations <= MAX_STATIONS),
-        None => false,
-    }
+    rows.checked_mul(columns)
+        .is_some_and(|stations| (1..=MAX_STATIONS).contains(&stations))
 }
 
 // Whether a lattice is within its limits.
@@ -90,7 +88,7 @@ impl LatticeNet {
 impl Net for LatticeNet {
     ghost meant = { λ n. lattice n.rows n.columns n.fees n.loss };
 
-    ghost sound = { λ n. sound_lattice n.rows n.columns n.fees n.loss (record { some = n.some; few = n.few; east = n.east; south = n.south; west = n.west; north = n.north; lost = n.lost }) };
+    ghost sound = { λ n. sound_lattice n.rows n.columns n.fees n.loss n.limits };
 
     fn stations(&self) -> usize {
         self.rows * self.columns

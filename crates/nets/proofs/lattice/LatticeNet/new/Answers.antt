@@ -1,27 +1,11 @@
-use Rattle.std.proofs.Common.{◌≡◌, true, false, sym, refl, ◌∙◌}
-use Rattle.std.proofs.lemmas.Bool.{cond-true, cond-false, both_ways, false≢true}
-use Rattle.nets.specs.Lattice.{lattice_fits}
+use Rattle.std.proofs.Common.{sym, ◌∙◌}
+use Rattle.std.proofs.lemmas.Bool.{both_ways}
 use Rattle.nets.proofs.Lattices.{sound_from_fits, fits_from_sound}
 use Rattle.nets.proofs.lattice.LatticeNet.new.Goals as goal
 
-pub returns-then-lattice_fits : goal.returns-then-lattice_fits
-returns-then-lattice_fits c =
-    let a = c.args in
-    let b : lattice_fits a.rows a.columns a.fees a.loss ≡ true = sym c.lattice_fits.ensures ∙ c.if-lattice_fits.true in
-    record {
-      answer = sym (cond-true _ _ _ b);
-      sound = λ _. sound_from_fits a.rows a.columns a.fees a.loss b;
-      complete = λ _. refl;
-      meaning = refl;
-    }
+pub returns-then-lattice_fits-clause-sound : goal.returns-then-lattice_fits-clause-sound
+returns-then-lattice_fits-clause-sound c _ = sound_from_fits c.args.rows c.args.columns c.args.fees c.args.loss (sym c.lattice_fits.ensures ∙ c.if-lattice_fits.true)
 
-pub returns-else-lattice_fits : goal.returns-else-lattice_fits
-returns-else-lattice_fits c =
-    let a = c.args in
-    let b : lattice_fits a.rows a.columns a.fees a.loss ≡ false = sym c.lattice_fits.ensures ∙ c.if-lattice_fits.false in
-    record {
-      answer = sym (cond-false _ _ _ b);
-      sound = λ e. absurd (false≢true e);
-      complete = λ s. absurd (both_ways _ b (fits_from_sound a.rows a.columns a.fees a.loss s));
-      meaning = tt;
-    }
+pub returns-else-lattice_fits-clause-complete : goal.returns-else-lattice_fits-clause-complete
+returns-else-lattice_fits-clause-complete c s =
+    absurd (both_ways _ (sym c.lattice_fits.ensures ∙ c.if-lattice_fits.false) (fits_from_sound c.args.rows c.args.columns c.args.fees c.args.loss s))

@@ -1,39 +1,27 @@
-use Rattle.std.proofs.Common.{◌<◌, length, refl, ap, arith}
-use Rattle.std.proofs.lemmas.Option.{slice_get_past}
-use Rattle.std.proofs.lemmas.Bool.{lt-ltb}
+use Rattle.std.proofs.Common.{ap, arith}
 use Rattle.nets.specs.Edits.{with_open}
-use Rattle.nets.specs.Patches.{patch_line, patched}
+use Rattle.nets.specs.Patches.{patch_line}
 use Rattle.nets.specs.PatchesSound.{length-patched}
-use Rattle.nets.proofs.Edits.{absent, changed_none}
 use Rattle.nets.proofs.Changes.{patched_rewritten, only_none}
 use Rattle.nets.proofs.patched.PatchedNetEditableNet.set_open.Goals as goal
 
-pub returns-then-k-lines_beneath : goal.returns-then-k-lines_beneath
-returns-then-k-lines_beneath g c =
-    let net = c.args.self.now in
-    let m = g.N.Net.meant net.net in
-    let e = slice_get_past (patched net.table.changes m).lines c.args.k (omega (arith, length-patched net.table.changes m.lines, c.lines_beneath.ensures)) in
-    record {
-      answer = rw (absent (patched net.table.changes m) c.args.k e);
-      after = changed_none (patched net.table.changes m) c.args.k (with_open c.args.open) e;
-      only = only_none c.args.k net;
-      refused = λ _. refl;
-    }
+pub returns-then-k-line_count-clause-only : goal.returns-then-k-line_count-clause-only
+returns-then-k-line_count-clause-only g c = only_none c.args.k c.args.self.now
 
-pub returns : goal.returns
-returns g c =
+pub at-requires : goal.at-requires
+at-requires g c = let net = c.args.self.now in omega (arith, length-patched net.table.changes (g.N.Net.meant net.net).lines, (g.N.Net.sound net.net).short)
+
+pub offset_bounds-self-k : goal.offset_bounds-self-k
+offset_bounds-self-k g c = let net = c.args.self.now in record { fits = omega (arith, length-patched net.table.changes (g.N.Net.meant net.net).lines, (g.N.Net.sound net.net).short) }
+
+pub bounds-self-k : goal.bounds-self-k
+bounds-self-k g c = let net = c.args.self.now in omega (arith, length-patched net.table.changes (g.N.Net.meant net.net).lines, (g.N.Net.sound net.net).short)
+
+pub returns-clause-after : goal.returns-clause-after
+returns-clause-after g c =
     let net = c.args.self.now in
-    let changes = net.table.changes in
     let m = g.N.Net.meant net.net in
-    let old = c.at-c.result in
-    let i : c.args.k < length m.lines = omega (arith, c.lines_beneath.ensures) in
+    let n = length-patched net.table.changes m.lines in
     let s = (g.N.Net.sound net.net).short in
-    let p = lt-ltb c.args.k (length (patched changes m).lines) (rw (length-patched changes m.lines) i) in
-    record {
-      answer = rw p;
-      after =
-          patched_rewritten changes m c.args.k old c.with_open.result (with_open c.args.open)
-          (omega (arith, c.at-c.ensures.size)) c.at-c.ensures.value i (λ l. ap (λ d. patch_line d l) c.with_open.ensures);
-      only = record { net = refl; value = _; changes = refl };
-      refused = λ x. grind arith;
-    }
+    patched_rewritten net.table.changes m c.args.k c.at.result c.with_open.result (with_open c.args.open)
+    (omega (arith, n, s, c.at.ensures.size)) c.at.ensures.value (omega (arith, n, s)) (λ l. ap (λ d. patch_line d l) c.with_open.ensures)

@@ -21,7 +21,7 @@ pub overflow_cast-result : goal.overflow_cast-result
 overflow_cast-result c =
     let n = c.args.self.now in
     let e = length-lattice n.rows n.columns n.fees n.loss in
-    record { fits = omega (arith, c.line_count.ensures, n.few) }
+    record { fits = omega (arith, c.line_count.ensures, n.limits.few) }
 
 pub overflow_cast-result-2 : goal.overflow_cast-result-2
 overflow_cast-result-2 c =
@@ -30,7 +30,7 @@ overflow_cast-result-2 c =
     let e = length-lattice n.rows n.columns n.fees n.loss in
     let below = neighbour_below n.rows n.columns s c.from_number-d.result (omega (arith, c.line_count.ensures)) in
     let to = c.unwrap_or.ensures ∙ ap (λ o. unwrap_or o s) c.beside-beside.ensures in
-    record { fits = omega (arith, n.few) }
+    record { fits = omega (arith, n.limits.few) }
 
 pub returns : goal.returns
 returns c =
