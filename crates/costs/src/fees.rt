@@ -31,18 +31,12 @@ impl CostKind for Fees {
         a <= b
     }
 
+    #[tactic(auto, using(crate::specs::AmountLaws::same_amount))]
     fn join(a: u32, b: u32) -> u32 {
-        add(a, b)
+        a.saturating_add(b)
     }
 
     fn of_price(fee: u32, _loss: u32) -> u32 {
         fee
     }
-}
-
-// The sum, or none where it is the largest number or more.
-fn add(a: u32, b: u32) -> u32
-    ensures { amount result ≡ fees.join (amount a) (amount b) }
-{
-    a.saturating_add(b)
 }

@@ -31,18 +31,12 @@ impl CostKind for Losses {
         a <= b
     }
 
+    #[tactic(auto, using(crate::specs::AmountLaws::same_amount))]
     fn join(a: u32, b: u32) -> u32 {
-        greater(a, b)
+        a.max(b)
     }
 
     fn of_price(_fee: u32, loss: u32) -> u32 {
         loss
     }
-}
-
-// The greater of two.
-fn greater(a: u32, b: u32) -> u32
-    ensures { amount result ≡ losses.join (amount a) (amount b) }
-{
-    a.max(b)
 }

@@ -26,30 +26,18 @@ impl Width {
         }
         Ok(Width { width })
     }
-
-    // The whole quotient of a number by the width.
-    fn quotient(&self, number: u32) -> u32
-        ensures { result ≡ number / self.now.width }
-    {
-        number / self.width
-    }
-
-    // Whether a number is above the width.
-    fn exceeded_by(&self, number: u32) -> bool
-        ensures { result ≡ nat_lt self.now.width number }
-    {
-        number > self.width
-    }
 }
 
 impl Banding<Fees> for Width {
     ghost bands = { λ w. width_bands w.width };
 
+    #[tactic(auto, using(crate::proofs::WidthLaws::width_laws))]
     fn level(&self, cost: u32) -> u32 {
-        self.quotient(cost)
+        cost / self.width
     }
 
+    #[tactic(auto, using(crate::proofs::WidthLaws::width_laws))]
     fn heavy(&self, cost: u32) -> bool {
-        self.exceeded_by(cost)
+        cost > self.width
     }
 }
