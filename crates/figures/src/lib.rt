@@ -13,16 +13,29 @@ pub fn figures_hold()
     ensures sheets { SheetFigures }
 {}
 
+// An open line.
+pub fn open_line(from: u32, to: u32, fee: u32, loss: u32) -> Line
+    ensures { result ≡ open_line from to fee loss }
+{
+    Line {
+        from,
+        to,
+        fee,
+        loss,
+        open: true,
+    }
+}
+
 // The lines of the five-line example, a net of five stations.
 pub fn five_lines() -> [Line; 5]
     ensures { result ≡ five_lines.lines }
 {
     [
-        line(0, 1, 10, 3),
-        line(0, 2, 3, 9),
-        line(2, 1, 4, 1),
-        line(1, 3, 2, 7),
-        line(2, 3, 12, 2),
+        open_line(0, 1, 10, 3),
+        open_line(0, 2, 3, 9),
+        open_line(2, 1, 4, 1),
+        open_line(1, 3, 2, 7),
+        open_line(2, 3, 12, 2),
     ]
 }
 
@@ -36,17 +49,4 @@ pub fn five_line_book() -> [u8; 28]
     \x02\x01\x04\x01\x01\
     \x01\x03\x02\x07\x01\
     \x02\x03\x0C\x02\x01"
-}
-
-// An open line.
-fn line(from: u32, to: u32, fee: u32, loss: u32) -> Line
-    ensures { result ≡ open_line from to fee loss }
-{
-    Line {
-        from,
-        to,
-        fee,
-        loss,
-        open: true,
-    }
 }

@@ -3,7 +3,7 @@
 #![tactic(auto)]
 
 use books::{BookFault, read_book};
-use nets::{BLANK_LINE, Line, ListNet, MAX_LINES, Net};
+use nets::{BLANK_LINE, Line, Lines, ListNet, MAX_LINES, Net};
 use std::io::Read;
 use std::{fmt, io};
 
@@ -48,10 +48,8 @@ fn list_net<N: Net>(rt: &HostRuntime, net: &N) -> io::Result<()> {
     let lines = net.line_count();
     println!(rt; "stations {stations}")?;
     println!(rt; "lines {lines}")?;
-    for number in 0..lines {
-        if let Some(line) = net.line(number) {
-            rt.println(Listed { number, line })?;
-        }
+    for (number, line) in Lines::of(net).enumerate() {
+        rt.println(Listed { number, line })?;
     }
     Ok(())
 }

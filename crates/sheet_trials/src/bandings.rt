@@ -1,12 +1,13 @@
 // Levels, and heavy and light costs.
-use crate::samples::{NONE, numbered};
+use crate::samples::NONE;
 use costs::{Banding, Fees, Losses, Whole, Width};
+use nets::Refusal;
 use std::process::Abort;
 use std::test::Fail;
 
 #[test]
 fn a_width_of_0_is_refused(rt: HostRuntime) {
-    assert!(rt; matches!(numbered(Width::new(0)), Err(15)));
+    assert!(rt; matches!(Width::new(0).map_err(Refusal::number), Err(15)));
     assert!(rt; Width::new(1).is_ok() && Width::new(u32::MAX).is_ok());
 }
 
@@ -35,16 +36,16 @@ fn width_5(rt: HostRuntime) -> Result<(), Fail> {
         (10, 2, true),
         (NONE - 1, 858_993_458, true),
     ];
-    check_bands(&rt, &numbered(Width::new(5))?, &bands);
+    check_bands(&rt, &Width::new(5)?, &bands);
     Ok(())
 }
 
 #[test]
 fn the_least_and_the_largest_width(rt: HostRuntime) -> Result<(), Fail> {
     let least = [(0, 0, false), (1, 1, false), (2, 2, true)];
-    check_bands(&rt, &numbered(Width::new(1))?, &least);
+    check_bands(&rt, &Width::new(1)?, &least);
     let largest = [(0, 0, false), (NONE - 1, 0, false)];
-    check_bands(&rt, &numbered(Width::new(u32::MAX))?, &largest);
+    check_bands(&rt, &Width::new(u32::MAX)?, &largest);
     Ok(())
 }
 

@@ -1,7 +1,7 @@
 // A right sheet by the plainest method: every line is relaxed as often as there are stations (Bellman-Ford).
 use crate::samples::row;
 use costs::{CostKind, line_cost};
-use nets::{Line, Net};
+use nets::{Line, Lines, Net};
 use sheets::Row;
 use std::alloc::Global;
 use std::test::Fail;
@@ -19,9 +19,9 @@ fn relax<K: CostKind<Cost = u32>>(rows: &mut [Row<u32>], k: usize, line: Line) {
     }
 }
 
-pub(crate) fn bellman_ford<N: Net, K: CostKind<Cost = u32>>(
+pub(crate) fn bellman_ford<K: CostKind<Cost = u32>>(
     heap: Global,
-    net: &N,
+    net: &impl Net,
     gateway: usize,
 ) -> Result<Vec<Row<u32>>, Fail> {
     let mut rows = vec![in heap; row(K::none(), None); net.stations()]?;
@@ -29,10 +29,8 @@ pub(crate) fn bellman_ford<N: Net, K: CostKind<Cost = u32>>(
         start.cost = K::start();
     }
     for _ in 0..net.stations() {
-        for k in 0..net.line_count() {
-            if let Some(line) = net.line(k) {
-                relax::<K>(rows.as_mut_slice(), k, line);
-            }
+        for (k, line) in Lines::of(net).enumerate() {
+            relax::<K>(rows.as_mut_slice(), k, line);
         }
     }
     Ok(rows)

@@ -1,28 +1,8 @@
 // Random nets of many shapes.
 use nets::Line;
+use random::Random;
 use std::alloc::Global;
 use std::test::Fail;
-
-// A linear congruential generator.
-#[derive(Drop)]
-pub(crate) struct Random {
-    state: u32,
-}
-
-impl Random {
-    pub(crate) fn new(seed: u32) -> Random {
-        Random { state: seed }
-    }
-
-    // A number below n, or 0 where n is 0.
-    pub(crate) fn below(&mut self, n: u32) -> u32 {
-        self.state = self
-            .state
-            .wrapping_mul(1_664_525)
-            .wrapping_add(1_013_904_223);
-        (self.state >> 8) % n.max(1)
-    }
-}
 
 // How many stations and lines, below which number fees and losses are drawn, and how many lines of eight are shut.
 #[derive(Clone, Copy)]

@@ -1,9 +1,10 @@
 // The check over random nets: yes for the sheet of a plain Bellman-Ford, no where one cost or one via of it is another.
 use crate::bellman_ford::bellman_ford;
-use crate::random_nets::{Random, Shape};
-use crate::samples::{judged, row};
+use crate::random_nets::Shape;
+use crate::samples::{judged, replace, row};
 use costs::{CostKind, Fees, Losses};
 use nets::{ListNet, Net};
+use random::Random;
 use sheets::Row;
 use std::alloc::Global;
 use std::process::Abort;
@@ -24,7 +25,7 @@ fn shapes() -> [Shape; 7] {
 
 // The row with another cost, or with a via in the place of none and none in the place of one.
 fn other_rows(right: Row<u32>) -> [Row<u32>; 3] {
-    let via = if right.via.is_none() { Some(0) } else { None };
+    let via = right.via.xor(Some(0));
     [
         row(right.cost.wrapping_add(1), right.via),
         row(right.cost.wrapping_sub(1), right.via),
@@ -32,32 +33,26 @@ fn other_rows(right: Row<u32>) -> [Row<u32>; 3] {
     ]
 }
 
-fn set(rows: &mut [Row<u32>], v: usize, other: Row<u32>) {
-    if let Some(place) = rows.get_mut(v) {
-        *place = other;
-    }
-}
-
-fn check_net<N: Net, K: CostKind<Cost = u32>>(
+fn check_net<K: CostKind<Cost = u32>>(
     rt: &impl Abort,
     heap: Global,
-    net: &N,
+    net: &impl Net,
     gateway: usize,
 ) -> Result<(), Fail> {
-    let right = bellman_ford::<N, K>(heap, net, gateway)?;
-    assert_eq!(rt; judged::<N, K>(net, gateway, right.as_slice()), Ok(true));
+    let right = bellman_ford::<K>(heap, net, gateway)?;
+    assert_eq!(rt; judged::<K>(net, gateway, right.as_slice()), Ok(true));
     let mut rows = right.clone()?;
     for (v, right_row) in right.iter().enumerate() {
         for other in other_rows(*right_row) {
-            set(rows.as_mut_slice(), v, other);
+            replace(rows.as_mut_slice(), v, other);
             assert_eq!(rt;
-                judged::<N, K>(net, gateway, rows.as_slice()),
+                judged::<K>(net, gateway, rows.as_slice()),
                 Ok(false),
                 "{}",
                 v
             );
         }
-        set(rows.as_mut_slice(), v, *right_row);
+        replace(rows.as_mut_slice(), v, *right_row);
     }
     Ok(())
 }
@@ -72,8 +67,8 @@ fn check_shape(
     let mut records = shape.records(heap, random)?;
     let net = ListNet::new(shape.stations as usize, records.as_mut_slice());
     let gateway = random.below(shape.stations) as usize;
-    check_net::<ListNet, Fees>(rt, heap, &net, gateway)?;
-    check_net::<ListNet, Losses>(rt, heap, &net, gateway)
+    check_net::<Fees>(rt, heap, &net, gateway)?;
+    check_net::<Losses>(rt, heap, &net, gateway)
 }
 
 #[test]

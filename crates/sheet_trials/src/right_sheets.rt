@@ -1,6 +1,7 @@
 // Sheets that are right, over each kind of net.
-use crate::samples::{NONE, by_fees, by_losses, fee_rows, line, loss_rows, numbered, row};
-use figures::five_lines;
+use crate::samples::{NONE, fee_rows, judged, loss_rows, row};
+use costs::{Fees, Losses};
+use figures::{five_lines, open_line};
 use nets::{EditableNet, LatticeFees, LatticeNet, ListNet, PatchedNet};
 use std::test::Fail;
 
@@ -8,10 +9,10 @@ use std::test::Fail;
 fn a_list_net_by_each_kind(rt: HostRuntime) {
     let mut records = five_lines();
     let net = ListNet::new(5, &mut records);
-    assert_eq!(rt; by_fees(&net, 0, &fee_rows()), Ok(true));
-    assert_eq!(rt; by_losses(&net, 0, &loss_rows()), Ok(true));
-    assert_eq!(rt; by_fees(&net, 0, &loss_rows()), Ok(false));
-    assert_eq!(rt; by_losses(&net, 0, &fee_rows()), Ok(false));
+    assert_eq!(rt; judged::<Fees>(&net, 0, &fee_rows()), Ok(true));
+    assert_eq!(rt; judged::<Losses>(&net, 0, &loss_rows()), Ok(true));
+    assert_eq!(rt; judged::<Fees>(&net, 0, &loss_rows()), Ok(false));
+    assert_eq!(rt; judged::<Losses>(&net, 0, &fee_rows()), Ok(false));
 }
 
 #[test]
@@ -26,26 +27,33 @@ fn for_its_own_gateway_only(rt: HostRuntime) {
         row(NONE, None),
     ];
     for gateway in 0..5 {
-        assert_eq!(rt; by_fees(&net, gateway, &from_2), Ok(gateway == 2));
-        assert_eq!(rt; by_fees(&net, gateway, &fee_rows()), Ok(gateway == 0));
+        assert_eq!(rt; judged::<Fees>(&net, gateway, &from_2), Ok(gateway == 2));
+        assert_eq!(rt;
+            judged::<Fees>(&net, gateway, &fee_rows()),
+            Ok(gateway == 0)
+        );
     }
 }
 
 #[test]
 fn either_of_two_equal_lines(rt: HostRuntime) {
-    let mut records = [line(0, 1, 6), line(0, 1, 6), line(0, 1, 7)];
+    let mut records = [
+        open_line(0, 1, 6, 0),
+        open_line(0, 1, 6, 0),
+        open_line(0, 1, 7, 0),
+    ];
     let net = ListNet::new(2, &mut records);
     for (via, right) in [(0, true), (1, true), (2, false)] {
         let rows = [row(0, None), row(6, Some(via))];
-        assert_eq!(rt; by_fees(&net, 0, &rows), Ok(right));
+        assert_eq!(rt; judged::<Fees>(&net, 0, &rows), Ok(right));
     }
 }
 
 #[test]
 fn one_station(rt: HostRuntime) {
     let net = ListNet::new(1, &mut []);
-    assert_eq!(rt; by_fees(&net, 0, &[row(0, None)]), Ok(true));
-    assert_eq!(rt; by_fees(&net, 0, &[row(NONE, None)]), Ok(false));
+    assert_eq!(rt; judged::<Fees>(&net, 0, &[row(0, None)]), Ok(true));
+    assert_eq!(rt; judged::<Fees>(&net, 0, &[row(NONE, None)]), Ok(false));
 }
 
 // Rows 0 1 2 and 3 4 5, with a fee for each direction.
@@ -56,7 +64,7 @@ fn lattice() -> Result<LatticeNet, Fail> {
         west: 70_000,
         north: 16_777_215,
     };
-    Ok(numbered(LatticeNet::new(2, 3, fees, 300))?)
+    Ok(LatticeNet::new(2, 3, fees, 300)?)
 }
 
 #[test]
@@ -70,7 +78,7 @@ fn a_lattice(rt: HostRuntime) -> Result<(), Fail> {
         row(210, Some(12)),
         row(220, Some(9)),
     ];
-    assert_eq!(rt; by_fees(&net, 0, &from_0), Ok(true));
+    assert_eq!(rt; judged::<Fees>(&net, 0, &from_0), Ok(true));
     let from_5 = [
         row(16_917_215, Some(6)),
         row(16_847_215, Some(19)),
@@ -79,8 +87,8 @@ fn a_lattice(rt: HostRuntime) -> Result<(), Fail> {
         row(70_000, Some(22)),
         row(0, None),
     ];
-    assert_eq!(rt; by_fees(&net, 5, &from_5), Ok(true));
-    assert_eq!(rt; by_fees(&net, 5, &from_0), Ok(false));
+    assert_eq!(rt; judged::<Fees>(&net, 5, &from_5), Ok(true));
+    assert_eq!(rt; judged::<Fees>(&net, 5, &from_0), Ok(false));
     Ok(())
 }
 
@@ -94,7 +102,7 @@ fn a_lattice_by_losses(rt: HostRuntime) -> Result<(), Fail> {
         row(300, Some(5)),
         row(300, Some(16)),
     ];
-    assert_eq!(rt; by_losses(&lattice()?, 1, &rows), Ok(true));
+    assert_eq!(rt; judged::<Losses>(&lattice()?, 1, &rows), Ok(true));
     Ok(())
 }
 
@@ -102,9 +110,9 @@ fn a_lattice_by_losses(rt: HostRuntime) -> Result<(), Fail> {
 fn a_patched_net_before_and_after_edits(rt: HostRuntime) -> Result<(), Fail> {
     let mut records = five_lines();
     let mut net = PatchedNet::new(ListNet::new(5, &mut records));
-    assert_eq!(rt; by_fees(&net, 0, &fee_rows()), Ok(true));
-    numbered(net.set_price(2, 8, 1))?;
-    assert_eq!(rt; by_fees(&net, 0, &fee_rows()), Ok(false));
+    assert_eq!(rt; judged::<Fees>(&net, 0, &fee_rows()), Ok(true));
+    net.set_price(2, 8, 1)?;
+    assert_eq!(rt; judged::<Fees>(&net, 0, &fee_rows()), Ok(false));
     let repriced = [
         row(0, None),
         row(10, Some(0)),
@@ -112,12 +120,12 @@ fn a_patched_net_before_and_after_edits(rt: HostRuntime) -> Result<(), Fail> {
         row(12, Some(3)),
         row(NONE, None),
     ];
-    assert_eq!(rt; by_fees(&net, 0, &repriced), Ok(true));
-    numbered(net.set_open(1, false))?;
-    assert_eq!(rt; by_fees(&net, 0, &repriced), Ok(false));
+    assert_eq!(rt; judged::<Fees>(&net, 0, &repriced), Ok(true));
+    net.set_open(1, false)?;
+    assert_eq!(rt; judged::<Fees>(&net, 0, &repriced), Ok(false));
     let [gateway, first, _, third, fourth] = repriced;
     let shut = [gateway, first, row(NONE, None), third, fourth];
-    assert_eq!(rt; by_fees(&net, 0, &shut), Ok(true));
+    assert_eq!(rt; judged::<Fees>(&net, 0, &shut), Ok(true));
     Ok(())
 }
 
@@ -133,5 +141,5 @@ fn the_same_lines_in_another_order(rt: HostRuntime) {
         row(9, Some(1)),
         row(NONE, None),
     ];
-    assert_eq!(rt; by_fees(&net, 0, &rows), Ok(true));
+    assert_eq!(rt; judged::<Fees>(&net, 0, &rows), Ok(true));
 }

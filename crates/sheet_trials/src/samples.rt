@@ -1,21 +1,10 @@
 // Lines, rows and sheets that the tests begin with, and what the check answers for them.
-use costs::{CostKind, Fees, Losses};
-use nets::{Line, Net, Refusal};
-use sheets::{Row, check as check_sheet};
+use costs::CostKind;
+use nets::{Net, Refusal};
+use sheets::{Row, check};
 
 // The cost none of fees and of losses.
 pub(crate) const NONE: u32 = 4_294_967_295;
-
-// An open line with that fee and no loss.
-pub(crate) fn line(from: u32, to: u32, fee: u32) -> Line {
-    Line {
-        from,
-        to,
-        fee,
-        loss: 0,
-        open: true,
-    }
-}
 
 pub(crate) fn row(cost: u32, via: Option<usize>) -> Row<u32> {
     Row { cost, via }
@@ -43,27 +32,18 @@ pub(crate) fn loss_rows() -> [Row<u32>; 5] {
     ]
 }
 
-// An answer with the number of its refusal.
-pub(crate) fn numbered<T>(answer: Result<T, Refusal>) -> Result<T, u8> {
-    match answer {
-        Ok(value) => Ok(value),
-        Err(refusal) => Err(refusal.number()),
+// Puts a row in the place of that of station v, where there is one.
+pub(crate) fn replace(rows: &mut [Row<u32>], v: usize, other: Row<u32>) {
+    if let Some(place) = rows.get_mut(v) {
+        *place = other;
     }
 }
 
-// What the check answers for a sheet.
-pub(crate) fn judged<N: Net, K: CostKind<Cost = u32>>(
-    net: &N,
+// What the check answers for a sheet, with the number of its refusal.
+pub(crate) fn judged<K: CostKind<Cost = u32>>(
+    net: &impl Net,
     gateway: usize,
     rows: &[Row<u32>],
 ) -> Result<bool, u8> {
-    numbered(check_sheet::<N, K>(net, gateway, rows))
-}
-
-pub(crate) fn by_fees<N: Net>(net: &N, gateway: usize, rows: &[Row<u32>]) -> Result<bool, u8> {
-    judged::<N, Fees>(net, gateway, rows)
-}
-
-pub(crate) fn by_losses<N: Net>(net: &N, gateway: usize, rows: &[Row<u32>]) -> Result<bool, u8> {
-    judged::<N, Losses>(net, gateway, rows)
+    check::<_, K>(net, gateway, rows).map_err(Refusal::number)
 }

@@ -1,6 +1,7 @@
 // Books cut short at every byte, and too long by one.
 use crate::checks::expect_fault;
 use crate::samples::WIDE;
+use books::Layer::{Book, Number};
 use figures::five_line_book;
 use std::test::*;
 
@@ -9,28 +10,23 @@ const STARTS: [usize; 13] = [0, 1, 3, 4, 6, 8, 12, 15, 16, 18, 20, 23, 26];
 
 // The beginning of the number that a cut of the wide book takes a byte from.
 fn start_before(cut: usize) -> usize {
-    let mut before = 0;
-    for start in STARTS {
-        if start <= cut {
-            before = start;
-        }
-    }
-    before
+    let before = STARTS.partition_point(|start| *start <= cut);
+    STARTS[..before].last().copied().unwrap_or(0)
 }
 
 #[test]
 fn one_byte_more(rt: HostRuntime) -> Result<(), Fail> {
     let mut book = five_line_book().to_vec(rt.alloc())?;
     book.push(0)?;
-    expect_fault(&rt, rt.alloc(), 5, book.as_slice(), (9, 28, "book", None))
+    expect_fault(&rt, rt.alloc(), 5, book.as_slice(), (9, 28, Book, None))
 }
 
 #[test]
 fn cut_at_every_byte(rt: HostRuntime) -> Result<(), Fail> {
     let book = five_line_book();
     for cut in 0..book.len() {
-        let line = if cut < 3 { None } else { Some((cut - 3) / 5) };
-        expect_fault(&rt, rt.alloc(), 5, &book[0..cut], (1, cut, "number", line))?;
+        let line = cut.checked_sub(3).map(|into| into / 5);
+        expect_fault(&rt, rt.alloc(), 5, &book[0..cut], (1, cut, Number, line))?;
     }
     Ok(())
 }
@@ -43,7 +39,7 @@ fn wide_numbers_cut_at_every_byte(rt: HostRuntime) -> Result<(), Fail> {
             4..16 => Some(0),
             _ => Some(1),
         };
-        let want = (1, start_before(cut), "number", line);
+        let want = (1, start_before(cut), Number, line);
         expect_fault(&rt, rt.alloc(), 2, &WIDE[0..cut], want)?;
     }
     Ok(())

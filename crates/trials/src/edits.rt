@@ -1,7 +1,6 @@
 // Edits as values, and edits of the five lines of a sample.
-use crate::checks::numbered;
 use crate::samples::line;
-use nets::{EditableNet, Line, MAX_FEE, MAX_LOSS};
+use nets::{EditableNet, Line, MAX_FEE, MAX_LOSS, Refusal};
 use std::process::Abort;
 use std::test::*;
 
@@ -14,11 +13,12 @@ pub(crate) enum Edit {
 }
 
 impl Edit {
-    pub(crate) fn make<N: EditableNet>(self, net: &mut N, k: usize) -> Result<(), u8> {
-        match self {
-            Edit::Price(fee, loss) => numbered(net.set_price(k, fee, loss)),
-            Edit::Open(open) => numbered(net.set_open(k, open)),
-        }
+    pub(crate) fn make(self, net: &mut impl EditableNet, k: usize) -> Result<(), u8> {
+        let answer = match self {
+            Edit::Price(fee, loss) => net.set_price(k, fee, loss),
+            Edit::Open(open) => net.set_open(k, open),
+        };
+        answer.map_err(Refusal::number)
     }
 }
 
@@ -56,13 +56,8 @@ pub(crate) const REFUSED: [Step; 6] = [
 ];
 
 // Makes the edits one after another, and compares what they answer.
-pub(crate) fn make_all<N: EditableNet>(
-    rt: &impl Abort,
-    net: &mut N,
-    steps: &[Step],
-) -> Result<(), Fail> {
+pub(crate) fn make_all(rt: &impl Abort, net: &mut impl EditableNet, steps: &[Step]) {
     for (k, edit, want) in steps {
         assert_eq!(rt; edit.make(net, *k), *want, "{}", *k);
     }
-    Ok(())
 }

@@ -1,36 +1,38 @@
 // Nets worked out from rows and columns.
-use crate::checks::{Fields, fields, numbered};
-use crate::samples::{FEES, LOSS, lattice};
-use nets::{LatticeFees, LatticeNet, MAX_FEE, MAX_LOSS, Net};
+use crate::checks::check_lines;
+use crate::samples::{FEES, LOSS, lattice, line};
+use nets::{LatticeFees, LatticeNet, Line, MAX_FEE, MAX_LOSS, Net, Refusal};
 use std::test::*;
 
 // The lines of two rows of three, of each station east, south, west and north.
-const TWO_BY_THREE: [Fields; 24] = [
-    (0, 1, 10, 300, true),
-    (0, 3, 200, 300, true),
-    (0, 0, 70_000, 300, false),
-    (0, 0, MAX_FEE, 300, false),
-    (1, 2, 10, 300, true),
-    (1, 4, 200, 300, true),
-    (1, 0, 70_000, 300, true),
-    (1, 1, MAX_FEE, 300, false),
-    (2, 2, 10, 300, false),
-    (2, 5, 200, 300, true),
-    (2, 1, 70_000, 300, true),
-    (2, 2, MAX_FEE, 300, false),
-    (3, 4, 10, 300, true),
-    (3, 3, 200, 300, false),
-    (3, 3, 70_000, 300, false),
-    (3, 0, MAX_FEE, 300, true),
-    (4, 5, 10, 300, true),
-    (4, 4, 200, 300, false),
-    (4, 3, 70_000, 300, true),
-    (4, 1, MAX_FEE, 300, true),
-    (5, 5, 10, 300, false),
-    (5, 5, 200, 300, false),
-    (5, 4, 70_000, 300, true),
-    (5, 2, MAX_FEE, 300, true),
-];
+fn two_by_three() -> [Line; 24] {
+    [
+        line(0, 1, 10, 300, true),
+        line(0, 3, 200, 300, true),
+        line(0, 0, 70_000, 300, false),
+        line(0, 0, MAX_FEE, 300, false),
+        line(1, 2, 10, 300, true),
+        line(1, 4, 200, 300, true),
+        line(1, 0, 70_000, 300, true),
+        line(1, 1, MAX_FEE, 300, false),
+        line(2, 2, 10, 300, false),
+        line(2, 5, 200, 300, true),
+        line(2, 1, 70_000, 300, true),
+        line(2, 2, MAX_FEE, 300, false),
+        line(3, 4, 10, 300, true),
+        line(3, 3, 200, 300, false),
+        line(3, 3, 70_000, 300, false),
+        line(3, 0, MAX_FEE, 300, true),
+        line(4, 5, 10, 300, true),
+        line(4, 4, 200, 300, false),
+        line(4, 3, 70_000, 300, true),
+        line(4, 1, MAX_FEE, 300, true),
+        line(5, 5, 10, 300, false),
+        line(5, 5, 200, 300, false),
+        line(5, 4, 70_000, 300, true),
+        line(5, 2, MAX_FEE, 300, true),
+    ]
+}
 
 // Rows and columns, with their product where it is within the limits.
 const SIZES: [(usize, usize, Option<usize>); 14] = [
@@ -51,22 +53,11 @@ const SIZES: [(usize, usize, Option<usize>); 14] = [
     (2, 0x8000_0000_0000_0001, None),
 ];
 
-fn line_fields(net: &LatticeNet, k: usize) -> Option<Fields> {
-    match net.line(k) {
-        Some(line) => Some(fields(line)),
-        None => None,
-    }
-}
-
 #[test]
 fn two_rows_of_three(rt: HostRuntime) -> Result<(), Fail> {
     let net = lattice(2, 3)?;
     assert_eq!(rt; (net.stations(), net.line_count()), (6, 24));
-    for (k, want) in TWO_BY_THREE.iter().enumerate() {
-        assert_eq!(rt; line_fields(&net, k), Some(*want), "{}", k);
-    }
-    assert_eq!(rt; line_fields(&net, 24), None);
-    assert_eq!(rt; line_fields(&net, usize::MAX), None);
+    check_lines(&rt, &net, &two_by_three());
     Ok(())
 }
 
@@ -74,10 +65,9 @@ fn two_rows_of_three(rt: HostRuntime) -> Result<(), Fail> {
 fn sizes_on_both_sides_of_the_limits(rt: HostRuntime) -> Result<(), Fail> {
     for (rows, columns, stations) in SIZES {
         let want = stations.ok_or(16);
-        let got = match numbered(LatticeNet::new(rows, columns, FEES, LOSS)) {
-            Ok(net) => Ok(net.stations()),
-            Err(number) => Err(number),
-        };
+        let got = LatticeNet::new(rows, columns, FEES, LOSS)
+            .map(|net| net.stations())
+            .map_err(Refusal::number);
         assert_eq!(rt; got, want, "{rows} rows, {columns} columns");
     }
     Ok(())
@@ -91,12 +81,16 @@ fn prices_at_the_limits(rt: HostRuntime) -> Result<(), Fail> {
         west: MAX_FEE,
         north: MAX_FEE,
     };
-    let net = numbered(LatticeNet::new(1, 1, fees, MAX_LOSS))?;
-    assert_eq!(rt;
-        line_fields(&net, 0),
-        Some((0, 0, MAX_FEE, MAX_LOSS, false))
-    );
+    let net = LatticeNet::new(1, 1, fees, MAX_LOSS)?;
+    assert_eq!(rt; net.line(0), Some(line(0, 0, MAX_FEE, MAX_LOSS, false)));
     Ok(())
+}
+
+// The number by which a lattice is refused.
+fn refusal(rows: usize, columns: usize, fees: LatticeFees, loss: u32) -> Option<u8> {
+    LatticeNet::new(rows, columns, fees, loss)
+        .err()
+        .map(Refusal::number)
 }
 
 #[test]
@@ -115,11 +109,8 @@ fn prices_beyond_the_limits(rt: HostRuntime) -> Result<(), Fail> {
         },
     ];
     for fees in excesses {
-        assert_eq!(rt; numbered(LatticeNet::new(2, 3, fees, LOSS)).err(), Some(16));
+        assert_eq!(rt; refusal(2, 3, fees, LOSS), Some(16));
     }
-    assert_eq!(rt;
-        numbered(LatticeNet::new(2, 3, FEES, MAX_LOSS + 1)).err(),
-        Some(16)
-    );
+    assert_eq!(rt; refusal(2, 3, FEES, MAX_LOSS + 1), Some(16));
     Ok(())
 }

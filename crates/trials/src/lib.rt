@@ -22,7 +22,7 @@ mod numbers;
 #[cfg(test)]
 mod patched_nets;
 #[cfg(test)]
-mod random;
+mod random_inputs;
 #[cfg(test)]
 mod readers;
 #[cfg(test)]

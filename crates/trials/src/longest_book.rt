@@ -1,8 +1,8 @@
 // The longest book: the most stations, and the most lines of the longest records.
-use crate::checks::{LONGEST, check_round_trip, numbered};
+use crate::checks::{LONGEST, check_round_trip};
 use crate::samples::FILL;
 use books::write_book;
-use nets::{Line, ListNet, MAX_FEE, MAX_LINES, MAX_LOSS, MAX_STATIONS};
+use nets::{Line, ListNet, MAX_FEE, MAX_LINES, MAX_LOSS, MAX_STATIONS, Refusal};
 use std::alloc::Global;
 use std::test::*;
 
@@ -18,13 +18,13 @@ const LONGEST_RECORD: Line = Line {
 fn write_longest(heap: Global, out: &mut [u8]) -> Result<Result<usize, u8>, Fail> {
     let mut records = vec![in heap; LONGEST_RECORD; MAX_LINES]?;
     let net = ListNet::new(MAX_STATIONS, records.as_mut_slice());
-    Ok(numbered(write_book(&net, out)))
+    Ok(write_book(&net, out).map_err(Refusal::number))
 }
 
 #[test]
 fn reads_back(rt: HostRuntime) -> Result<(), Fail> {
     let mut records = vec![in rt.alloc(); LONGEST_RECORD; MAX_LINES]?;
-    numbered(ListNet::judge(MAX_STATIONS, records.as_slice()))?;
+    ListNet::judge(MAX_STATIONS, records.as_slice())?;
     check_round_trip(
         &rt,
         rt.alloc(),

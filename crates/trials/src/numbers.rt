@@ -20,34 +20,24 @@ const WHOLE: [(&[u8], u32); 13] = [
 ];
 
 // Bytes that begin with no number, each with the reason.
-const FAULTY: [(&[u8], &str); 11] = [
-    (&[], "cut"),
-    (&[0x80], "cut"),
-    (&[0xAC, 0x82], "cut"),
-    (&[0xFF, 0xFF, 0xFF, 0xFF], "cut"),
-    (&[0xFF, 0xFF, 0xFF, 0xFF, 0x10], "too large"),
-    (&[0x80, 0x80, 0x80, 0x80, 0x10], "too large"),
-    (&[0x80, 0x80, 0x80, 0x80, 0x80], "too large"),
-    (&[0x80, 0x00], "padded"),
-    (&[0xFF, 0x00], "padded"),
-    (&[0x80, 0x80, 0x80, 0x00], "padded"),
-    (&[0x80, 0x80, 0x80, 0x80, 0x00], "padded"),
+const FAULTY: [(&[u8], NumberError); 11] = [
+    (&[], NumberError::Cut),
+    (&[0x80], NumberError::Cut),
+    (&[0xAC, 0x82], NumberError::Cut),
+    (&[0xFF, 0xFF, 0xFF, 0xFF], NumberError::Cut),
+    (&[0xFF, 0xFF, 0xFF, 0xFF, 0x10], NumberError::TooLarge),
+    (&[0x80, 0x80, 0x80, 0x80, 0x10], NumberError::TooLarge),
+    (&[0x80, 0x80, 0x80, 0x80, 0x80], NumberError::TooLarge),
+    (&[0x80, 0x00], NumberError::Padded),
+    (&[0xFF, 0x00], NumberError::Padded),
+    (&[0x80, 0x80, 0x80, 0x00], NumberError::Padded),
+    (&[0x80, 0x80, 0x80, 0x80, 0x00], NumberError::Padded),
 ];
-
-// The number at the front of some bytes with the count of its bytes, or why there is none.
-fn read(bytes: &[u8]) -> Result<(u32, usize), &'static str> {
-    match read_number(bytes) {
-        Ok(number) => Ok(number),
-        Err(NumberError::Cut) => Err("cut"),
-        Err(NumberError::TooLarge) => Err("too large"),
-        Err(NumberError::Padded) => Err("padded"),
-    }
-}
 
 #[test]
 fn whole_numbers_are_read(rt: HostRuntime) -> Result<(), Fail> {
     for (bytes, value) in WHOLE {
-        assert_eq!(rt; read(bytes), Ok((value, bytes.len())));
+        assert_eq!(rt; read_number(bytes), Ok((value, bytes.len())));
     }
     Ok(())
 }
@@ -55,14 +45,14 @@ fn whole_numbers_are_read(rt: HostRuntime) -> Result<(), Fail> {
 #[test]
 fn faulty_numbers_are_refused(rt: HostRuntime) -> Result<(), Fail> {
     for (bytes, why) in FAULTY {
-        assert_eq!(rt; read(bytes), Err(why), "{bytes:?}");
+        assert_eq!(rt; read_number(bytes), Err(why), "{bytes:?}");
     }
     Ok(())
 }
 
 #[test]
 fn bytes_behind_a_number_are_not_read(rt: HostRuntime) -> Result<(), Fail> {
-    assert_eq!(rt; read(&[0xAC, 0x02, 0xFF]).ok(), Some((300, 2)));
-    assert_eq!(rt; read(&[0x00, 0x00]).ok(), Some((0, 1)));
+    assert_eq!(rt; read_number(&[0xAC, 0x02, 0xFF]).ok(), Some((300, 2)));
+    assert_eq!(rt; read_number(&[0x00, 0x00]).ok(), Some((0, 1)));
     Ok(())
 }

@@ -1,6 +1,7 @@
 // The cursor of a reader.
-use crate::checks::{check_line, told};
-use books::Reader;
+use crate::checks::tell;
+use books::Layer::Book;
+use books::{Head, Reader};
 use figures::{five_line_book, five_lines};
 use std::test::*;
 
@@ -9,10 +10,14 @@ fn goes_through_a_book(rt: HostRuntime) -> Result<(), Fail> {
     let book = five_line_book();
     let lines = five_lines();
     let mut reader = Reader::new(&book);
-    let head = told(reader.head(5))?;
-    assert_eq!(rt; (head.stations, head.lines, reader.at), (5, 5, 3));
+    let head = reader.head(5)?;
+    let want = Head {
+        stations: 5,
+        lines: 5,
+    };
+    assert_eq!(rt; (head, reader.at), (want, 3));
     for (k, want) in lines.iter().enumerate() {
-        check_line(&rt, k, reader.record(k, head.stations).ok(), *want)?;
+        assert_eq!(rt; reader.record(k, head.stations), Ok(*want));
     }
     assert!(rt; reader.end().is_ok());
     Ok(())
@@ -26,6 +31,6 @@ fn stays_at_a_fault(rt: HostRuntime) -> Result<(), Fail> {
     reader.at = 3;
     assert!(rt; reader.record(0, 5).is_err());
     assert_eq!(rt; reader.at, 7);
-    assert_eq!(rt; told(reader.end()), Err((9, 7, "book", None)));
+    assert_eq!(rt; reader.end().map_err(tell), Err((9, 7, Book, None)));
     Ok(())
 }

@@ -1,8 +1,9 @@
 // Nets of many shapes, written and read back.
 use crate::checks::check_round_trip;
-use crate::random::Random;
+use crate::random_inputs::{random_edit, random_records};
 use crate::samples::{lattice, line};
 use nets::{ListNet, Net, PatchedNet};
+use random::Random;
 use std::alloc::Global;
 use std::process::Abort;
 use std::test::*;
@@ -26,7 +27,7 @@ fn list_nets(rt: HostRuntime) -> Result<(), Fail> {
     for stations in 1..=20 {
         for _ in 0..15 {
             let lines = random.below(41);
-            let mut records = random.records(rt.alloc(), lines, stations)?;
+            let mut records = random_records(rt.alloc(), &mut random, lines, stations)?;
             let net = ListNet::new(stations as usize, records.as_mut_slice());
             check_round_trip(&rt, rt.alloc(), &net)?;
         }
@@ -43,16 +44,16 @@ fn lattice_nets(rt: HostRuntime) -> Result<(), Fail> {
 }
 
 // The round trip of a net after some edits.
-fn check_edited_trip<N: Net + Drop>(
+fn check_edited_trip(
     rt: &impl Abort,
     heap: Global,
     random: &mut Random,
-    beneath: N,
+    beneath: impl Net + Drop,
 ) -> Result<(), Fail> {
     let mut net = PatchedNet::new(beneath);
     for _ in 0..20 {
         let k = random.below(45) as usize;
-        let _ = random.edit().make(&mut net, k);
+        let _ = random_edit(random).make(&mut net, k);
     }
     check_round_trip(rt, heap, &net)
 }
@@ -61,7 +62,7 @@ fn check_edited_trip<N: Net + Drop>(
 fn patched_nets(rt: HostRuntime) -> Result<(), Fail> {
     let mut random = Random::new(2);
     for stations in 1..=20 {
-        let mut records = random.records(rt.alloc(), 40, stations)?;
+        let mut records = random_records(rt.alloc(), &mut random, 40, stations)?;
         let list = ListNet::new(stations as usize, records.as_mut_slice());
         check_edited_trip(&rt, rt.alloc(), &mut random, list)?;
         check_edited_trip(&rt, rt.alloc(), &mut random, lattice(1, stations as usize)?)?;

@@ -1,21 +1,23 @@
 // Books whose bytes and lines stand side by side, read and written.
-use crate::checks::{check_marks, check_records, numbered, told};
+use crate::checks::check_marks;
 use crate::samples::{FILL, MARK, WIDE, wide_records};
-use books::{read_book, write_book};
+use books::{Head, read_book, write_book};
 use nets::{Line, ListNet};
 use std::process::Abort;
 use std::test::*;
 
 // That the book is read as these lines, and the records beyond them are left.
-fn check_read(rt: &impl Abort, book: &[u8], stations: usize, lines: &[Line]) -> Result<(), Fail> {
+fn check_read(rt: &impl Abort, book: &[u8], stations: usize, lines: &[Line]) {
     let mut table = [MARK; 8];
-    let head = told(read_book(book, &mut table))?;
-    assert_eq!(rt; (head.stations, head.lines), (stations, lines.len()));
+    let head = Head {
+        stations,
+        lines: lines.len(),
+    };
+    assert_eq!(rt; read_book(book, &mut table), Ok(head));
     assert!(rt; lines.len() < table.len());
     let (read, others) = table.split_at(lines.len());
-    check_records(rt, read, lines)?;
+    assert_eq!(rt; read, lines);
     check_marks(rt, others);
-    Ok(())
 }
 
 // That a net of these lines is written as the book, and the bytes beyond it are left.
@@ -26,13 +28,11 @@ fn check_written(
     lines: &mut [Line],
 ) -> Result<(), Fail> {
     let mut out = [FILL; 32];
-    let length = numbered(write_book(&ListNet::new(stations, lines), &mut out))?;
+    let length = write_book(&ListNet::new(stations, lines), &mut out)?;
     assert!(rt; length < out.len());
     let (written, others) = out.split_at(length);
     assert_eq!(rt; written, book);
-    for byte in others {
-        assert_eq!(rt; *byte, FILL);
-    }
+    assert!(rt; others.iter().all(|byte| *byte == FILL));
     Ok(())
 }
 
@@ -42,7 +42,7 @@ fn check_sample(
     stations: usize,
     lines: &mut [Line],
 ) -> Result<(), Fail> {
-    check_read(rt, book, stations, lines)?;
+    check_read(rt, book, stations, lines);
     check_written(rt, book, stations, lines)
 }
 

@@ -1,7 +1,5 @@
 // Books, lines and lattices that the tests begin with.
-use crate::checks::numbered;
-use nets::{LatticeFees, LatticeNet, Line, MAX_FEE, MAX_LOSS};
-use std::test::*;
+use nets::{LatticeFees, LatticeNet, Line, MAX_FEE, MAX_LOSS, Refusal};
 
 // A book of 512 stations and two lines, in which most numbers have several bytes.
 pub(crate) const WIDE: [u8; 27] = *b"\x01\x80\x04\x02\
@@ -56,6 +54,6 @@ pub(crate) fn wide_records() -> [Line; 2] {
     ]
 }
 
-pub(crate) fn lattice(rows: usize, columns: usize) -> Result<LatticeNet, Fail> {
-    Ok(numbered(LatticeNet::new(rows, columns, FEES, LOSS))?)
+pub(crate) fn lattice(rows: usize, columns: usize) -> Result<LatticeNet, Refusal> {
+    LatticeNet::new(rows, columns, FEES, LOSS)
 }
