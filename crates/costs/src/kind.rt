@@ -24,7 +24,8 @@ pub trait CostKind {
     fn none() -> Self::Cost
         ensures { value result ≡ ops.none };
 
-    // Whether a is at most b.
+    // Whether a is at most b. The order is that of what costs mean, where several stored costs may mean the same, so `Ord` and its laws
+    // of equal values don't fit.
     fn at_most(a: Self::Cost, b: Self::Cost) -> bool
         ensures { result ≡ ops.at_most (value a) (value b) };
 

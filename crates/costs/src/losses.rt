@@ -5,7 +5,8 @@ ghost use Rattle.costs.specs.AmountLaws.{loss_laws};
 use crate::amount::{Amount, LARGEST};
 use crate::kind::CostKind;
 
-// A line costs its loss. Losses join to the greater.
+// A line costs its loss. Losses join to the greater. (Start, none and the order read as those of fees: a trait beneath both, with one
+// impl over it, would be longer than these three lines, and would stand in the way of other kinds' impls.)
 pub struct Losses;
 
 impl CostKind for Losses {

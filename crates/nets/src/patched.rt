@@ -10,6 +10,7 @@ use crate::net::{EditableNet, Net};
 use crate::refusal::Refusal;
 
 // What is changed of a line. A fee or a loss beyond its limit reads as unchanged, and so does an absent `open`.
+// The table is plain, without an invariant, so a number has to read somehow whatever it is: an Option would not spare that rule.
 #[derive(Clone, Copy)]
 pub struct Change {
     fee: u32,
@@ -69,17 +70,6 @@ pub struct PatchTable {
     changes: [Change; MAX_LINES],
 }
 
-impl PatchTable {
-    // The change of line k.
-    fn at(&self, k: usize) -> Change
-        requires { k < max_lines }
-        ensures value { result ≡ slice_index_or self.now.changes k result }
-        ensures size { length self.now.changes ≡ max_lines }
-    {
-        self.changes[k]
-    }
-}
-
 // Any net, with a change for each of its lines. The net beneath stays as it is.
 #[derive(Drop)]
 pub struct PatchedNet<N> {
@@ -117,10 +107,12 @@ impl<N: Net> Net for PatchedNet<N> {
 
     fn line(&self, k: usize) -> Option<Line> {
         let line = self.net.line(k)?;
-        Some(self.table.at(k).apply(line))
+        Some(self.table.changes[k].apply(line))
     }
 }
 
+// The two edits read like those of the list net and share no line with them but the refusals: what is written is a change here and a
+// record there, and one text for both would need a method that must not be called at every k.
 impl<N: Net> EditableNet for PatchedNet<N> {
     ghost only = { OnlyChange };
 
@@ -131,7 +123,7 @@ impl<N: Net> EditableNet for PatchedNet<N> {
         if !price_fits(fee, loss) {
             return Err(Refusal::PriceLimit);
         }
-        self.table.changes[k] = self.table.at(k).with_price(fee, loss);
+        self.table.changes[k] = self.table.changes[k].with_price(fee, loss);
         Ok(())
     }
 
@@ -139,7 +131,7 @@ impl<N: Net> EditableNet for PatchedNet<N> {
         if k >= self.line_count() {
             return Err(Refusal::NoSuchLine);
         }
-        self.table.changes[k] = self.table.at(k).with_open(open);
+        self.table.changes[k] = self.table.changes[k].with_open(open);
         Ok(())
     }
 }

@@ -33,7 +33,7 @@ pub enum Refusal {
 }
 
 impl Refusal {
-    // The fixed number by which a call is refused, 1 to 17.
+    // The fixed number by which a call is refused, 1 to 17: what users are told, and part of the library's promise.
     pub fn number(self) -> u8
         ensures { result ≡ number_of self }
     {

@@ -9,7 +9,7 @@ use std::test::*;
 // How many bytes the longest book has: a head of 5 and 2,048 records of 12.
 pub(crate) const LONGEST: usize = 24_581;
 
-// What a fault tells: the number, the place, the layer, and the line where a record is at fault.
+// What a fault tells: the number, as users are told it, the place, the layer, and the line where a record is at fault.
 pub(crate) type Told = (u8, usize, Layer, Option<usize>);
 
 pub(crate) fn tell(fault: BookFault) -> Told {

@@ -4,6 +4,7 @@ use nets::{EditableNet, Line, MAX_FEE, MAX_LOSS, Refusal};
 use std::process::Abort;
 use std::test::*;
 
+// Values, not closures: tables of edits are made on two nets of different types, and closures can't stand in a table for both.
 #[derive(Clone, Copy)]
 pub(crate) enum Edit {
     // a fee and a loss
@@ -22,7 +23,7 @@ impl Edit {
     }
 }
 
-// The line that is edited, the edit, and what it answers.
+// The line that is edited, the edit, and what it answers, a refusal by its number, as users are told it.
 pub(crate) type Step = (usize, Edit, Result<(), u8>);
 
 pub(crate) const ACCEPTED: [Step; 6] = [

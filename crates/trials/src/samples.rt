@@ -18,7 +18,7 @@ pub(crate) const MARK: Line = Line {
     open: true,
 };
 
-// A shut line from station 0 to itself, at no fee and no loss.
+// A shut line from station 0 to itself, at no fee and no loss, written out: what a test expects is not taken from the code under test.
 pub(crate) const BLANK: Line = Line {
     from: 0,
     to: 0,

@@ -15,7 +15,7 @@ pub(super) enum Direction {
 }
 
 impl Direction {
-    // The direction of line 4s + d.
+    // The direction of line 4s + d. No `TryFrom`: every number of a line has a direction, and none is refused.
     pub(super) fn from_number(d: usize) -> Direction
         ensures { result ≡ direction_of d }
     {

@@ -1,15 +1,9 @@
 use Rattle.std.proofs.Common.{◌*◌, ◌/◌, ◌%◌, ◌<◌, Some, unwrap_or, sym, ap, ◌∙◌, arith}
 use Rattle.nets.specs.Lattice.{directions, direction_of, line_at}
 use Rattle.nets.specs.LatticeSound.{length-lattice, neighbour_below}
-use Rattle.nets.proofs.SliceGet.{slice_get-counted, slice_get-counted_past}
+use Rattle.nets.proofs.SliceGet.{slice_get-counted}
 use Rattle.nets.proofs.Lattices.{line_made}
 use Rattle.nets.proofs.lattice.lines.LatticeNetNet.line.Goals as goal
-
-pub returns-then-k-line_count : goal.returns-then-k-line_count
-returns-then-k-line_count c =
-    let n = c.args.self.now in
-    let e = length-lattice n.rows n.columns n.fees n.loss in
-    sym (slice_get-counted_past (line_at n.rows n.columns n.fees n.loss) (directions * (n.rows * n.columns)) c.args.k (omega (arith, c.line_count.ensures)))
 
 pub beside-beside-requires : goal.beside-beside-requires
 beside-beside-requires c =
