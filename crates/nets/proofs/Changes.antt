@@ -72,3 +72,6 @@ pub only_none : {N : Type 0} (k : ℕ) (net : PatchedNet N) → OnlyChange k net
 only_none k net =
     let changes = net.table.changes in
     record { net = refl; value = get_or changes k blank_change; changes = sym (set-get_or changes k blank_change) }
+
+-- how many lines a patched net has, for proofs that name it in the code
+pub ruleset patched_lengths = (length-patched)

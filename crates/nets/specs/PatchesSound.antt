@@ -33,6 +33,3 @@ sound_patched cs m s = record {
   short = rw (length-patched cs m.lines) s.short;
   each = all_patched m.stations cs m.lines s.each;
 }
-
--- how many lines a patched net has, for proofs that name it in the code
-pub ruleset patched_lengths = (length-patched)

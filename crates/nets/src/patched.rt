@@ -100,7 +100,7 @@ impl<N: Net> Net for PatchedNet<N> {
         self.net.stations()
     }
 
-    #[tactic(auto, using(crate::specs::PatchesSound::patched_lengths))]
+    #[tactic(auto, using(crate::proofs::Changes::patched_lengths))]
     fn line_count(&self) -> usize {
         self.net.line_count()
     }
@@ -111,8 +111,8 @@ impl<N: Net> Net for PatchedNet<N> {
     }
 }
 
-// The two edits read like those of the list net and share no line with them but the refusals: what is written is a change here and a
-// record there, and one text for both would need a method that must not be called at every k.
+// The two edits read like those of the list net: they write a change where those write a record. One text for both would need a public
+// method with a `requires` to write it, and no public call has one.
 impl<N: Net> EditableNet for PatchedNet<N> {
     ghost only = { OnlyChange };
 
