@@ -1,17 +1,17 @@
 -- What a table of records means: its lines, its edits, and its judging. Assumes nothing.
-use Rattle.std.proofs.Common.{◌≡◌, ℕ, ◌<◌, ◌≤◌, min, true, List, [], ◌∷◌, map, length, get_or, take, set, Some, None, Decides, sym, refl, ap, ◌∙◌, arith, length-take}
+use Rattle.std.proofs.Common.{◌≡◌, ℕ, ◌<◌, ◌≤◌, min, Bool, true, List, [], ◌∷◌, map, length, get_or, take, set, Some, None, Decides, sym, refl, ap, ◌∙◌, arith, length-take}
 use Rattle.std.proofs.lemmas.List.{length-map}
 use Rattle.std.specs.List.{AllByRecursion, slice_get}
 use Rattle.std.proofs.lemmas.List.{map-set, get_or-map, get_or-take, set-get_or, take_all}
 use Rattle.std.proofs.Math.Seq.{take-set-lt}
-use Rattle.std.proofs.lemmas.Option.{slice_get-get_or, slice_get_past, slice_get_within}
+use Rattle.std.proofs.lemmas.Option.{slice_get-get_or, slice_get_past}
 use Rattle.std.proofs.lemmas.Bool.{cond-true, and_from, and_parts, le-leb, leb-true}
 use Rattle.std.proofs.ByRecursion.{Decides-by_and}
 use Rattle.nets.specs.declared.line.Line.{Line}
 use Rattle.nets.specs.declared.list.ListNet.{ListNet}
-use Rattle.nets.specs.Model.{LineLimits, Sound, max_lines, line_fits}
-use Rattle.nets.specs.LimitTests.{limits_from_fits, fits_from_limits}
-use Rattle.nets.specs.Edits.{changed}
+use Rattle.nets.specs.Model.{LineLimits, Sound, max_lines, price_fits, line_fits}
+use Rattle.nets.specs.LimitTests.{price_from_fits, limits_from_fits, fits_from_limits}
+use Rattle.nets.specs.Edits.{with_price, with_open, changed}
 use Rattle.nets.specs.Only.{OnlyRecord}
 use Rattle.nets.specs.Listed.{stations_of, blank_line, seen, listed, as_given, all_fit, net_fits}
 use Rattle.nets.specs.ListedSound.{length-listed, sound_listed}
@@ -31,11 +31,7 @@ slice_get-listed n records k d h =
 pub slice_get-listed_past : (n : ℕ) (records : List Line) (k : ℕ) → min (length records) max_lines ≤ k → slice_get (listed n records).lines k ≡ None
 slice_get-listed_past n records k h = slice_get_past _ k (rw (length-listed n records) h)
 
-pub inside_records : (n : ℕ) (records : List Line) (k : ℕ) (l : Line) → slice_get (listed n records).lines k ≡ Some l → (k < length records) × (k < max_lines)
-inside_records n records k l e =
-    let h = slice_get_within (listed n records).lines k l e in let m = length-listed n records in (omega arith, omega arith)
-
-pub line_limits : (n : ℕ) (records : List Line) (k : ℕ) (l : Line) → slice_get (listed n records).lines k ≡ Some l → LineLimits (stations_of n) l
+line_limits : (n : ℕ) (records : List Line) (k : ℕ) (l : Line) → slice_get (listed n records).lines k ≡ Some l → LineLimits (stations_of n) l
 line_limits n records k l e = All-slice_get (LineLimits (stations_of n)) (listed n records).lines k l (sound_listed n records).each e
 
 -- an edit
@@ -47,12 +43,25 @@ set-listed : (n : ℕ) (records : List Line) (k : ℕ) (x : Line) → k < max_li
 set-listed n records k x h e =
     ap (map (seen (stations_of n))) (take-set-lt max_lines records k x h) ∙ map-set (seen (stations_of n)) (take max_lines records) k x ∙ ap (set (listed n records).lines k) e
 
--- record k written as line k changed by f, within the limits: the net is changed by f at line k
-pub listed_rewritten : (n : ℕ) (records : List Line) (k : ℕ) (l x : Line) (f : Line → Line) → slice_get (listed n records).lines k ≡ Some l → x ≡ f l → LineLimits (stations_of n) (f l) → listed n (set records k x) ≡ changed (listed n records) k f
-listed_rewritten n records k l x f e q h =
+-- record k written as what f makes of it as it was read, where f keeps within the limits: the net is changed by f at line k
+pub listed_rewritten : (n : ℕ) (records : List Line) (k : ℕ) (x : Line) (f : Line → Line) → k < length (listed n records).lines → x ≡ f (seen (stations_of n) (get_or records k blank_line)) → ((l : Line) → LineLimits (stations_of n) l → LineLimits (stations_of n) (f l)) → listed n (set records k x) ≡ changed (listed n records) k f
+listed_rewritten n records k x f i q keeps =
+    let l = seen (stations_of n) (get_or records k blank_line) in
+    let h = length-listed n records in
+    let e = slice_get-listed n records k blank_line (omega arith) in
     ap (λ y. listed n (set records k y)) q
-    ∙ ap (as_given (stations_of n)) (set-listed n records k (f l) (inside_records n records k l e).1 (seen_within (stations_of n) (f l) h))
+    ∙ ap (as_given (stations_of n)) (set-listed n records k (f l) (omega arith) (seen_within (stations_of n) (f l) (keeps l (line_limits n records k l e))))
     ∙ changed_some (listed n records) k f l e
+
+-- a line's number is that of a record which is read
+pub in_table : (n : ℕ) (records : List Line) (k : ℕ) → k < length (listed n records).lines → (k < length records) × (k < max_lines)
+in_table n records k i = let h = length-listed n records in (omega arith, omega arith)
+
+pub priced_limits : (n fee loss : ℕ) → price_fits fee loss ≡ true → (l : Line) → LineLimits n l → LineLimits n (with_price fee loss l)
+priced_limits n fee loss b l h = let p = price_from_fits fee loss b in record { from = h.from; to = h.to; fee = p.0; loss = p.1 }
+
+pub opened_limits : (n : ℕ) (b : Bool) (l : Line) → LineLimits n l → LineLimits n (with_open b l)
+opened_limits n b l h = record { from = h.from; to = h.to; fee = h.fee; loss = h.loss }
 
 -- no edit at all
 pub only_none : (k : ℕ) (net : ListNet) → OnlyRecord k net net

@@ -1,6 +1,7 @@
 // Nets: a count of stations and a list of lines, behind one trait, and the edits of an editable net.
 #![tactic(auto)]
 
+mod judging;
 mod lattice;
 mod limits;
 mod line;

@@ -4,8 +4,9 @@ ghost use Rattle.nets.specs.Only.{OnlyRecord};
 ghost use Rattle.nets.specs.Listed.{listed, as_given, net_fits, judged};
 ghost use Rattle.nets.specs.ListedSound.{sound_listed};
 
+use crate::judging::{judge_open, judge_price};
 use crate::limits::{MAX_LINES, MAX_STATIONS};
-use crate::line::{Line, price_fits};
+use crate::line::Line;
 use crate::net::{EditableNet, Net};
 use crate::refusal::Refusal;
 
@@ -89,17 +90,14 @@ impl<'a> EditableNet for ListNet<'a> {
     ghost only = { OnlyRecord };
 
     fn set_price(&mut self, k: usize, fee: u32, loss: u32) -> Result<(), Refusal> {
-        let line = self.line(k).ok_or(Refusal::NoSuchLine)?;
-        if !price_fits(fee, loss) {
-            return Err(Refusal::PriceLimit);
-        }
-        self.records[k] = line.with_price(fee, loss);
+        judge_price(self, k, fee, loss)?;
+        self.records[k] = self.records[k].read(self.stations()).with_price(fee, loss);
         Ok(())
     }
 
     fn set_open(&mut self, k: usize, open: bool) -> Result<(), Refusal> {
-        let line = self.line(k).ok_or(Refusal::NoSuchLine)?;
-        self.records[k] = line.with_open(open);
+        judge_open(self, k)?;
+        self.records[k] = self.records[k].read(self.stations()).with_open(open);
         Ok(())
     }
 }

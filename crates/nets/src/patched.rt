@@ -4,8 +4,9 @@ ghost use Rattle.nets.specs.Only.{OnlyChange};
 ghost use Rattle.nets.specs.Patches.{patch_line, ChangesNothing, change_price, change_open, patched};
 ghost use Rattle.nets.specs.PatchesSound.{sound_patched};
 
+use crate::judging::{judge_open, judge_price};
 use crate::limits::{MAX_FEE, MAX_LINES, MAX_LOSS};
-use crate::line::{Line, price_fits};
+use crate::line::Line;
 use crate::net::{EditableNet, Net};
 use crate::refusal::Refusal;
 
@@ -111,26 +112,17 @@ impl<N: Net> Net for PatchedNet<N> {
     }
 }
 
-// The two edits read like those of the list net: they write a change where those write a record. One text for both would need a public
-// method with a `requires` to write it, and no public call has one.
 impl<N: Net> EditableNet for PatchedNet<N> {
     ghost only = { OnlyChange };
 
     fn set_price(&mut self, k: usize, fee: u32, loss: u32) -> Result<(), Refusal> {
-        if k >= self.line_count() {
-            return Err(Refusal::NoSuchLine);
-        }
-        if !price_fits(fee, loss) {
-            return Err(Refusal::PriceLimit);
-        }
+        judge_price(self, k, fee, loss)?;
         self.table.changes[k] = self.table.changes[k].with_price(fee, loss);
         Ok(())
     }
 
     fn set_open(&mut self, k: usize, open: bool) -> Result<(), Refusal> {
-        if k >= self.line_count() {
-            return Err(Refusal::NoSuchLine);
-        }
+        judge_open(self, k)?;
         self.table.changes[k] = self.table.changes[k].with_open(open);
         Ok(())
     }

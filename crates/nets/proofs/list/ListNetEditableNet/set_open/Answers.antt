@@ -1,34 +1,31 @@
-use Rattle.std.proofs.Common.{sym, ◌∙◌, rules, arith}
+use Rattle.std.proofs.Common.{ap, ◌∙◌, arith}
 use Rattle.nets.specs.Edits.{with_open}
-use Rattle.nets.specs.Listed.{listed}
-use Rattle.nets.proofs.Edits.{absent, present}
-use Rattle.nets.proofs.Records.{inside_records, line_limits, listed_rewritten, only_none}
+use Rattle.nets.specs.Listed.{stations_of, listed}
+use Rattle.nets.proofs.Edits.{open_accepted, open_refused}
+use Rattle.nets.proofs.Records.{in_table, listed_rewritten, opened_limits, only_none}
 use Rattle.nets.proofs.list.ListNetEditableNet.set_open.Goals as goal
 
-pub returns-in_err-line-clause-answer : goal.returns-in_err-line-clause-answer
-returns-in_err-line-clause-answer c =
-    rw (absent (listed c.args.self.now.count c.args.self.now.records.now) c.args.k (sym c.line.ensures ∙ c.in_err-line.ensures.ok_part)) (search rules)
+pub returns-in_err-judge_open-clause-after : goal.returns-in_err-judge_open-clause-after
+returns-in_err-judge_open-clause-after c = let net = c.args.self.now in open_refused (listed net.count net.records.now) c.args.k _ c.args.open c.in_err-judge_open.ensures
 
-pub returns-in_err-line-clause-only : goal.returns-in_err-line-clause-only
-returns-in_err-line-clause-only c = only_none c.args.k c.args.self.now
+pub returns-in_err-judge_open-clause-only : goal.returns-in_err-judge_open-clause-only
+returns-in_err-judge_open-clause-only c = only_none c.args.k c.args.self.now
 
 pub offset_bounds-self-k : goal.offset_bounds-self-k
-offset_bounds-self-k c =
-    let h = inside_records c.args.self.now.count c.args.self.now.records.now c.args.k c.in_ok-line.line (sym c.line.ensures ∙ c.in_ok-line.ensures.ok_part) in
-    record { fits = omega (arith, h.1) }
+offset_bounds-self-k c = let net = c.args.self.now in let h = in_table net.count net.records.now c.args.k (open_accepted (listed net.count net.records.now) c.args.k _ c.in_ok-judge_open.ensures) in record { fits = omega (arith, h.1) }
 
 pub bounds-self-k : goal.bounds-self-k
-bounds-self-k c =
-    (inside_records c.args.self.now.count c.args.self.now.records.now c.args.k c.in_ok-line.line (sym c.line.ensures ∙ c.in_ok-line.ensures.ok_part)).0
+bounds-self-k c = let net = c.args.self.now in (in_table net.count net.records.now c.args.k (open_accepted (listed net.count net.records.now) c.args.k _ c.in_ok-judge_open.ensures)).0
 
-pub returns-clause-answer : goal.returns-clause-answer
-returns-clause-answer c =
-    rw (present (listed c.args.self.now.count c.args.self.now.records.now) c.args.k c.in_ok-line.line (sym c.line.ensures ∙ c.in_ok-line.ensures.ok_part))
+pub offset_bounds-self-k-2 : goal.offset_bounds-self-k-2
+offset_bounds-self-k-2 c = let net = c.args.self.now in let h = in_table net.count net.records.now c.args.k (open_accepted (listed net.count net.records.now) c.args.k _ c.in_ok-judge_open.ensures) in record { fits = omega (arith, h.1) }
+
+pub bounds-self-k-2 : goal.bounds-self-k-2
+bounds-self-k-2 c = let net = c.args.self.now in (in_table net.count net.records.now c.args.k (open_accepted (listed net.count net.records.now) c.args.k _ c.in_ok-judge_open.ensures)).0
 
 pub returns-clause-after : goal.returns-clause-after
 returns-clause-after c =
-    let n = c.args.self.now.count in
-    let records = c.args.self.now.records.now in
-    let e = sym c.line.ensures ∙ c.in_ok-line.ensures.ok_part in
-    let w = line_limits n records c.args.k c.in_ok-line.line e in
-    listed_rewritten n records c.args.k c.in_ok-line.line c.with_open.result (with_open c.args.open) e c.with_open.ensures (record { from = w.from; to = w.to; fee = w.fee; loss = w.loss })
+    let net = c.args.self.now in
+    let h = open_accepted (listed net.count net.records.now) c.args.k _ c.in_ok-judge_open.ensures in
+    listed_rewritten net.count net.records.now c.args.k c.with_open.result (with_open c.args.open) h
+    (c.with_open.ensures ∙ ap (with_open c.args.open) (rw c.stations.ensures at c.read.ensures)) (opened_limits (stations_of net.count) c.args.open)

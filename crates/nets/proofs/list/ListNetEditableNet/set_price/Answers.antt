@@ -1,47 +1,33 @@
-use Rattle.std.proofs.Common.{◌≡◌, true, sym, ◌∙◌, rules, arith}
+use Rattle.std.proofs.Common.{sym, ap, ◌∙◌, arith}
 use Rattle.std.proofs.lemmas.Bool.{cond-true}
-use Rattle.nets.specs.Model.{price_fits}
-use Rattle.nets.specs.LimitTests.{price_from_fits}
 use Rattle.nets.specs.Edits.{with_price}
-use Rattle.nets.specs.Listed.{listed}
-use Rattle.nets.proofs.Edits.{absent, present}
-use Rattle.nets.proofs.Records.{inside_records, line_limits, listed_rewritten, only_none}
+use Rattle.nets.specs.Listed.{stations_of, listed}
+use Rattle.nets.proofs.Edits.{price_accepted, price_refused}
+use Rattle.nets.proofs.Records.{in_table, listed_rewritten, priced_limits, only_none}
 use Rattle.nets.proofs.list.ListNetEditableNet.set_price.Goals as goal
 
-pub returns-in_err-line-clause-answer : goal.returns-in_err-line-clause-answer
-returns-in_err-line-clause-answer c =
-    rw (absent (listed c.args.self.now.count c.args.self.now.records.now) c.args.k (sym c.line.ensures ∙ c.in_err-line.ensures.ok_part)) (search rules)
+pub returns-in_err-judge_price-clause-after : goal.returns-in_err-judge_price-clause-after
+returns-in_err-judge_price-clause-after c = let net = c.args.self.now in price_refused (listed net.count net.records.now) c.args.k c.args.fee c.args.loss _ c.in_err-judge_price.ensures
 
-pub returns-in_err-line-clause-only : goal.returns-in_err-line-clause-only
-returns-in_err-line-clause-only c = only_none c.args.k c.args.self.now
-
-pub returns-then-not-price_fits-clause-answer : goal.returns-then-not-price_fits-clause-answer
-returns-then-not-price_fits-clause-answer c =
-    rw (present (listed c.args.self.now.count c.args.self.now.records.now) c.args.k c.in_ok-line.line (sym c.line.ensures ∙ c.in_ok-line.ensures.ok_part)) (search rules)
-
-pub returns-then-not-price_fits-clause-only : goal.returns-then-not-price_fits-clause-only
-returns-then-not-price_fits-clause-only c = only_none c.args.k c.args.self.now
+pub returns-in_err-judge_price-clause-only : goal.returns-in_err-judge_price-clause-only
+returns-in_err-judge_price-clause-only c = only_none c.args.k c.args.self.now
 
 pub offset_bounds-self-k : goal.offset_bounds-self-k
-offset_bounds-self-k c =
-    let h = inside_records c.args.self.now.count c.args.self.now.records.now c.args.k c.in_ok-line.line (sym c.line.ensures ∙ c.in_ok-line.ensures.ok_part) in
-    record { fits = omega (arith, h.1) }
+offset_bounds-self-k c = let net = c.args.self.now in let h = in_table net.count net.records.now c.args.k (price_accepted (listed net.count net.records.now) c.args.k c.args.fee c.args.loss _ c.in_ok-judge_price.ensures).0 in record { fits = omega (arith, h.1) }
 
 pub bounds-self-k : goal.bounds-self-k
-bounds-self-k c =
-    (inside_records c.args.self.now.count c.args.self.now.records.now c.args.k c.in_ok-line.line (sym c.line.ensures ∙ c.in_ok-line.ensures.ok_part)).0
+bounds-self-k c = let net = c.args.self.now in (in_table net.count net.records.now c.args.k (price_accepted (listed net.count net.records.now) c.args.k c.args.fee c.args.loss _ c.in_ok-judge_price.ensures).0).0
 
-pub returns-clause-answer : goal.returns-clause-answer
-returns-clause-answer c =
-    rw (present (listed c.args.self.now.count c.args.self.now.records.now) c.args.k c.in_ok-line.line (sym c.line.ensures ∙ c.in_ok-line.ensures.ok_part)) (search rules)
+pub offset_bounds-self-k-2 : goal.offset_bounds-self-k-2
+offset_bounds-self-k-2 c = let net = c.args.self.now in let h = in_table net.count net.records.now c.args.k (price_accepted (listed net.count net.records.now) c.args.k c.args.fee c.args.loss _ c.in_ok-judge_price.ensures).0 in record { fits = omega (arith, h.1) }
+
+pub bounds-self-k-2 : goal.bounds-self-k-2
+bounds-self-k-2 c = let net = c.args.self.now in (in_table net.count net.records.now c.args.k (price_accepted (listed net.count net.records.now) c.args.k c.args.fee c.args.loss _ c.in_ok-judge_price.ensures).0).0
 
 pub returns-clause-after : goal.returns-clause-after
 returns-clause-after c =
-    let n = c.args.self.now.count in
-    let records = c.args.self.now.records.now in
-    let e = sym c.line.ensures ∙ c.in_ok-line.ensures.ok_part in
-    let w = line_limits n records c.args.k c.in_ok-line.line e in
-    let b : price_fits c.args.fee c.args.loss ≡ true = sym c.price_fits.ensures ∙ c.if-not-price_fits.false in
-    let p = price_from_fits c.args.fee c.args.loss b in
-    listed_rewritten n records c.args.k c.in_ok-line.line c.with_price.result (with_price c.args.fee c.args.loss) e c.with_price.ensures (record { from = w.from; to = w.to; fee = p.0; loss = p.1 })
-    ∙ sym (cond-true _ _ _ b)
+    let net = c.args.self.now in
+    let h = price_accepted (listed net.count net.records.now) c.args.k c.args.fee c.args.loss _ c.in_ok-judge_price.ensures in
+    listed_rewritten net.count net.records.now c.args.k c.with_price.result (with_price c.args.fee c.args.loss) h.0
+    (c.with_price.ensures ∙ ap (with_price c.args.fee c.args.loss) (rw c.stations.ensures at c.read.ensures)) (priced_limits (stations_of net.count) c.args.fee c.args.loss h.1)
+    ∙ sym (cond-true _ _ _ h.1)

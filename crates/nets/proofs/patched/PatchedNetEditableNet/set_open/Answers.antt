@@ -1,26 +1,31 @@
 use Rattle.std.proofs.Common.{ap, arith}
 use Rattle.nets.specs.Edits.{with_open}
-use Rattle.nets.specs.Patches.{patch_line}
+use Rattle.nets.specs.Patches.{patch_line, patched}
+use Rattle.nets.proofs.Edits.{open_accepted, open_refused}
 use Rattle.nets.proofs.Changes.{in_table, patched_rewritten, only_none}
 use Rattle.nets.proofs.patched.PatchedNetEditableNet.set_open.Goals as goal
 
-pub returns-then-k-line_count-clause-only : goal.returns-then-k-line_count-clause-only
-returns-then-k-line_count-clause-only g c = only_none c.args.k c.args.self.now
+pub returns-in_err-judge_open-clause-after : goal.returns-in_err-judge_open-clause-after
+returns-in_err-judge_open-clause-after g c = let net = c.args.self.now in open_refused (patched net.table.changes (g.N.Net.meant net.net)) c.args.k _ c.args.open c.in_err-judge_open.ensures
+
+pub returns-in_err-judge_open-clause-only : goal.returns-in_err-judge_open-clause-only
+returns-in_err-judge_open-clause-only g c = only_none c.args.k c.args.self.now
 
 pub offset_bounds-self-k : goal.offset_bounds-self-k
-offset_bounds-self-k g c = let net = c.args.self.now in let h = in_table net.table.changes _ c.args.k (g.N.Net.sound net.net) (omega arith) in record { fits = omega (arith, h.0) }
+offset_bounds-self-k g c = let net = c.args.self.now in let h = in_table net.table.changes (g.N.Net.meant net.net) c.args.k (g.N.Net.sound net.net) (open_accepted (patched net.table.changes (g.N.Net.meant net.net)) c.args.k _ c.in_ok-judge_open.ensures) in record { fits = omega (arith, h.0) }
 
 pub bounds-self-k : goal.bounds-self-k
-bounds-self-k g c = let net = c.args.self.now in (in_table net.table.changes _ c.args.k (g.N.Net.sound net.net) (omega arith)).0
+bounds-self-k g c = let net = c.args.self.now in (in_table net.table.changes (g.N.Net.meant net.net) c.args.k (g.N.Net.sound net.net) (open_accepted (patched net.table.changes (g.N.Net.meant net.net)) c.args.k _ c.in_ok-judge_open.ensures)).0
 
 pub offset_bounds-self-k-2 : goal.offset_bounds-self-k-2
-offset_bounds-self-k-2 g c = let net = c.args.self.now in let h = in_table net.table.changes _ c.args.k (g.N.Net.sound net.net) (omega arith) in record { fits = omega (arith, h.0) }
+offset_bounds-self-k-2 g c = let net = c.args.self.now in let h = in_table net.table.changes (g.N.Net.meant net.net) c.args.k (g.N.Net.sound net.net) (open_accepted (patched net.table.changes (g.N.Net.meant net.net)) c.args.k _ c.in_ok-judge_open.ensures) in record { fits = omega (arith, h.0) }
 
 pub bounds-self-k-2 : goal.bounds-self-k-2
-bounds-self-k-2 g c = let net = c.args.self.now in (in_table net.table.changes _ c.args.k (g.N.Net.sound net.net) (omega arith)).0
+bounds-self-k-2 g c = let net = c.args.self.now in (in_table net.table.changes (g.N.Net.meant net.net) c.args.k (g.N.Net.sound net.net) (open_accepted (patched net.table.changes (g.N.Net.meant net.net)) c.args.k _ c.in_ok-judge_open.ensures)).0
 
 pub returns-clause-after : goal.returns-clause-after
 returns-clause-after g c =
     let net = c.args.self.now in
-    let h = in_table net.table.changes _ c.args.k (g.N.Net.sound net.net) (omega arith) in
-    patched_rewritten net.table.changes (g.N.Net.meant net.net) c.args.k c.with_open.result (with_open c.args.open) (omega (arith, h.0)) h.1 (λ l. ap (λ d. patch_line d l) c.with_open.ensures)
+    let h = in_table net.table.changes (g.N.Net.meant net.net) c.args.k (g.N.Net.sound net.net) (open_accepted (patched net.table.changes (g.N.Net.meant net.net)) c.args.k _ c.in_ok-judge_open.ensures) in
+    patched_rewritten net.table.changes (g.N.Net.meant net.net) c.args.k c.with_open.result (with_open c.args.open) (omega (arith, h.0)) h.1
+    (λ l. ap (λ d. patch_line d l) c.with_open.ensures)

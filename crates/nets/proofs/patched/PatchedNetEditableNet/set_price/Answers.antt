@@ -1,34 +1,34 @@
-use Rattle.std.proofs.Common.{◌≡◌, true, get_or, sym, ap, ◌∙◌, arith}
+use Rattle.std.proofs.Common.{get_or, sym, ap, ◌∙◌, arith}
 use Rattle.std.proofs.lemmas.Bool.{cond-true}
-use Rattle.nets.specs.Model.{price_fits}
 use Rattle.nets.specs.Edits.{with_price}
-use Rattle.nets.specs.Patches.{patch_line}
+use Rattle.nets.specs.Patches.{patch_line, patched}
+use Rattle.nets.proofs.Edits.{price_accepted, price_refused}
 use Rattle.nets.proofs.Changes.{blank_change, in_table, patched_rewritten, patch_price, only_none}
 use Rattle.nets.proofs.patched.PatchedNetEditableNet.set_price.Goals as goal
 
-pub returns-then-k-line_count-clause-only : goal.returns-then-k-line_count-clause-only
-returns-then-k-line_count-clause-only g c = only_none c.args.k c.args.self.now
+pub returns-in_err-judge_price-clause-after : goal.returns-in_err-judge_price-clause-after
+returns-in_err-judge_price-clause-after g c = let net = c.args.self.now in price_refused (patched net.table.changes (g.N.Net.meant net.net)) c.args.k c.args.fee c.args.loss _ c.in_err-judge_price.ensures
 
-pub returns-then-not-price_fits-clause-only : goal.returns-then-not-price_fits-clause-only
-returns-then-not-price_fits-clause-only g c = only_none c.args.k c.args.self.now
+pub returns-in_err-judge_price-clause-only : goal.returns-in_err-judge_price-clause-only
+returns-in_err-judge_price-clause-only g c = only_none c.args.k c.args.self.now
 
 pub offset_bounds-self-k : goal.offset_bounds-self-k
-offset_bounds-self-k g c = let net = c.args.self.now in let h = in_table net.table.changes _ c.args.k (g.N.Net.sound net.net) (omega arith) in record { fits = omega (arith, h.0) }
+offset_bounds-self-k g c = let net = c.args.self.now in let h = in_table net.table.changes (g.N.Net.meant net.net) c.args.k (g.N.Net.sound net.net) (price_accepted (patched net.table.changes (g.N.Net.meant net.net)) c.args.k c.args.fee c.args.loss _ c.in_ok-judge_price.ensures).0 in record { fits = omega (arith, h.0) }
 
 pub bounds-self-k : goal.bounds-self-k
-bounds-self-k g c = let net = c.args.self.now in (in_table net.table.changes _ c.args.k (g.N.Net.sound net.net) (omega arith)).0
+bounds-self-k g c = let net = c.args.self.now in (in_table net.table.changes (g.N.Net.meant net.net) c.args.k (g.N.Net.sound net.net) (price_accepted (patched net.table.changes (g.N.Net.meant net.net)) c.args.k c.args.fee c.args.loss _ c.in_ok-judge_price.ensures).0).0
 
 pub offset_bounds-self-k-2 : goal.offset_bounds-self-k-2
-offset_bounds-self-k-2 g c = let net = c.args.self.now in let h = in_table net.table.changes _ c.args.k (g.N.Net.sound net.net) (omega arith) in record { fits = omega (arith, h.0) }
+offset_bounds-self-k-2 g c = let net = c.args.self.now in let h = in_table net.table.changes (g.N.Net.meant net.net) c.args.k (g.N.Net.sound net.net) (price_accepted (patched net.table.changes (g.N.Net.meant net.net)) c.args.k c.args.fee c.args.loss _ c.in_ok-judge_price.ensures).0 in record { fits = omega (arith, h.0) }
 
 pub bounds-self-k-2 : goal.bounds-self-k-2
-bounds-self-k-2 g c = let net = c.args.self.now in (in_table net.table.changes _ c.args.k (g.N.Net.sound net.net) (omega arith)).0
+bounds-self-k-2 g c = let net = c.args.self.now in (in_table net.table.changes (g.N.Net.meant net.net) c.args.k (g.N.Net.sound net.net) (price_accepted (patched net.table.changes (g.N.Net.meant net.net)) c.args.k c.args.fee c.args.loss _ c.in_ok-judge_price.ensures).0).0
 
 pub returns-clause-after : goal.returns-clause-after
 returns-clause-after g c =
     let net = c.args.self.now in
-    let h = in_table net.table.changes _ c.args.k (g.N.Net.sound net.net) (omega arith) in
-    let b : price_fits c.args.fee c.args.loss ≡ true = sym c.price_fits.ensures ∙ c.if-not-price_fits.false in
+    let b = price_accepted (patched net.table.changes (g.N.Net.meant net.net)) c.args.k c.args.fee c.args.loss _ c.in_ok-judge_price.ensures in
+    let h = in_table net.table.changes (g.N.Net.meant net.net) c.args.k (g.N.Net.sound net.net) b.0 in
     patched_rewritten net.table.changes (g.N.Net.meant net.net) c.args.k c.with_price.result (with_price c.args.fee c.args.loss) (omega (arith, h.0)) h.1
-    (λ l. ap (λ d. patch_line d l) c.with_price.ensures ∙ patch_price (get_or net.table.changes c.args.k blank_change) c.args.fee c.args.loss b l)
-    ∙ sym (cond-true _ _ _ b)
+    (λ l. ap (λ d. patch_line d l) c.with_price.ensures ∙ patch_price (get_or net.table.changes c.args.k blank_change) c.args.fee c.args.loss b.1 l)
+    ∙ sym (cond-true _ _ _ b.1)
