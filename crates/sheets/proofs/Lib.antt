@@ -1,10 +1,9 @@
-pub mod Rows
-pub mod NetLines
 pub mod Within
 pub mod RouteCosts
 pub mod Consistency
 pub mod Counting
 pub mod Tested
+pub mod Successors
 pub mod WalksBack
 pub mod Verdicts
 pub mod Agreement

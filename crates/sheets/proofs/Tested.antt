@@ -1,27 +1,26 @@
--- A test of every number below n: a loop's start and step, one that fails, and what it says. Assumes nothing.
-use Rattle.std.proofs.Common.{◌≡◌, ℕ, zero, suc, ◌+◌, ◌<◌, Bool, true, false, sym, refl, ap, ◌∙◌, ⊎_elim, add-one, arith}
-use Rattle.std.proofs.lemmas.Bool.{both_ways, cases_Bool, and_from, and_left, and_right}
+-- A test of every number below n: what it says, and that of every element of a list. Assumes nothing.
+use Rattle.std.proofs.Common.{◌≡◌, ℕ, ◌<◌, Bool, true, List, length, get_or, sym, refl, ap, ◌∙◌, zero-add}
+use Rattle.std.specs.List.{list_all, range_with_len}
+use Rattle.std.proofs.lemmas.List.Folds.{list_all-map}
+use Rattle.std.proofs.lemmas.List.FromFn.{length-range_with_len, get_or-range_with_len, fill_by_all}
+use Rattle.std.proofs.lemmas.List.Sums.{AllPass-from_list_all, list_all-from_AllPass}
 use Rattle.sheets.specs.Verdict.{all_below}
-use Rattle.sheets.proofs.Counting.{below_suc}
-
-pub all_none : (p : ℕ → Bool) → all_below p 0 ≡ true
-unfolding all_below
-all_none p = refl
-
-pub all_more : (p : ℕ → Bool) (n : ℕ) → all_below p n ≡ true → p n ≡ true → all_below p (n + 1) ≡ true
-unfolding all_below
-all_more p n below here = rw (add-one n) (and_from _ _ here below)
-
-pub all_fails : (p : ℕ → Bool) (n k : ℕ) → k < n → p k ≡ false → all_below p n ≡ false
-unfolding all_below
-all_fails p zero k h e = absurd (omega arith)
-all_fails p (suc n) k h e =
-    ⊎_elim (λ l. and_right (p n) (all_below p n) (all_fails p n k l e)) (λ q. and_left (p n) (all_below p n) (ap p (sym q) ∙ e)) (below_suc k n h)
 
 pub all_says : (p : ℕ → Bool) (n : ℕ) → all_below p n ≡ true → (k : ℕ) → k < n → p k ≡ true
-all_says p n e k h = ⊎_elim (λ q. q) (λ q. absurd (both_ways _ (all_fails p n k h q) e)) (cases_Bool (p k))
+unfolding all_below
+all_says p n e k h =
+    let at : get_or (range_with_len 0 n) k 0 ≡ k = get_or-range_with_len 0 n k 0 h ∙ zero-add k in
+    ap p (sym at) ∙ AllPass-from_list_all p (range_with_len 0 n) e k 0 (rw (length-range_with_len 0 n) h)
 
 pub all_from : (p : ℕ → Bool) (n : ℕ) → ((k : ℕ) → k < n → p k ≡ true) → all_below p n ≡ true
 unfolding all_below
-all_from p zero h = refl
-all_from p (suc n) h = and_from _ _ (h n (omega arith)) (all_from p n (λ k l. h k (omega arith)))
+all_from p n h =
+    list_all-from_AllPass p (range_with_len 0 n) (λ k d l.
+    let below : k < n = rw (length-range_with_len 0 n) at l in
+    ap p (get_or-range_with_len 0 n k d below ∙ zero-add k) ∙ h k below)
+
+pub all_elements : {X : Type 0} (p : X → Bool) (xs : List X) (d : X) → list_all p xs ≡ all_below (λ k. p (get_or xs k d)) (length xs)
+unfolding all_below
+all_elements p xs d =
+    let at : ℕ → _ = λ k. get_or xs k d in
+    ap (list_all p) (fill_by_all at xs (length xs) d refl (λ k h. refl)) ∙ list_all-map p at (range_with_len 0 (length xs))

@@ -1,9 +1,11 @@
 -- Following vias back: what `leads_back` says, and that as many stations as there are suffice. Assumes nothing.
-use Rattle.std.proofs.Common.{◌≡◌, ℕ, zero, suc, ◌+◌, ◌-◌, ◌<◌, ◌≤◌, Bool, true, false, eqb, ltb, List, [], ◌∷◌, length, Some, None, Option, sym, refl, ap, ◌∙◌, subst, ⊎_elim, arith}
+use Rattle.std.proofs.Common.{◌≡◌, ℕ, zero, suc, ◌<◌, ◌≤◌, Bool, true, false, ◌==◌, ◌||◌, eqb, ltb, List, [], ◌∷◌, length, Some, None, Option, sym, refl, ap, ◌∙◌, ⊎_elim, arith}
 use Rattle.std.proofs.lemmas.Bool.{both_ways, cases_Bool, cases_lt, cond-true, cond-false, or_left, or_right, or_cases, or_from, eqb-true, eq-eqb, ne_eqb, ltb-true, lt-ltb}
 use Rattle.sheets.specs.Graph.{Graph}
 use Rattle.sheets.specs.Sheet.{Sheet, Back}
 use Rattle.sheets.specs.Verdict.{before, holds_of, leads_back}
+use Rattle.std.specs.List.{list_any}
+use Rattle.sheets.proofs.Successors.{first_items}
 use Rattle.sheets.proofs.Within.{Within}
 use Rattle.sheets.proofs.Counting.{count, count_within, count_more}
 use Rattle.sheets.proofs.Consistency.{none_is_not_some}
@@ -21,31 +23,13 @@ module _ {V : Type 0} (G : Graph V) (s : Sheet V) (g : ℕ) where
       (λ b. absurd (both_ways _ (ap (holds_of p) (cond-false (ltb k G.lines) (Some (G.line k).from) None b)) e))
       (cases_Bool (ltb k G.lines))
 
-  -- the station before another is a station
-  pub before_within : Within G → (o : Option ℕ) (u : ℕ) → before G o ≡ Some u → u < G.stations
-  before_within W o u e =
-      let via = before_says (eqb u) o (ap (holds_of (eqb u)) e ∙ eq-eqb u u refl) in
-      subst (λ x. x < G.stations) (sym (eqb-true u (G.line via.0).from via.3)) (W.from via.0 via.2)
-
-  -- A walk that has met i of n stations and is at u, where t is what the whole walk says: it has met all, or is at the gateway, or goes on to the station before.
-  module _ (n i u : ℕ) (t : Bool) where
-    abbrev pub Walked : Type 0
-    Walked = leads_back G s g (n - i) u ≡ t
-
-    pub walk_past : n ≤ i → Walked → false ≡ t
-    unfolding leads_back
-    walk_past h walked = ap (λ m. leads_back G s g m u) (let e : ◌≡◌ {A = ℕ} 0 (n - i) = omega arith in e) ∙ walked
-
-    one_more : i < n → leads_back G s g (suc (n - (i + 1))) u ≡ leads_back G s g (n - i) u
-    one_more h = ap (λ m. leads_back G s g m u) (omega arith)
-
-    pub walk_here : i < n → u ≡ g → Walked → true ≡ t
-    unfolding leads_back
-    walk_here h e walked = sym (or_left _ _ (eq-eqb u g e)) ∙ one_more h ∙ walked
-
-    pub walk_more : i < n → (u ≡ g → ⊥) → Walked → holds_of (leads_back G s g (n - (i + 1))) (before G (s u).via) ≡ t
-    unfolding leads_back
-    walk_more h ne walked = sym (rw (ne_eqb u g ne)) ∙ one_more h ∙ walked
+  -- the gateway is among the first n stations that are met from o on
+  pub any_met : (n : ℕ) (o : Option ℕ) → list_any (λ u. u == g) (first_items (λ u. before G (s u).via) n o) ≡ holds_of (leads_back G s g n) o
+  unfolding leads_back
+  any_met zero None = refl
+  any_met zero (Some u) = refl
+  any_met (suc n) None = refl
+  any_met (suc n) (Some u) = ap (λ b. u == g || b) (any_met n (before G (s u).via))
 
   pub back_from_leads : (n v : ℕ) → leads_back G s g n v ≡ true → (ks : List ℕ) × Back G s g v ks × (length ks < n)
   unfolding leads_back

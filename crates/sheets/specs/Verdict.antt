@@ -1,14 +1,14 @@
 -- The verdict of the check, worked out from the rows line by line and station by station. That it is yes exactly for a right sheet is a
 -- theorem, stated in Check (`Tells`). Assumes nothing.
-use Rattle.std.specs.Prelude.{ℕ, zero, suc, Bool, true, false, cond, not, ◌&&◌, ◌||◌, Some, None, Option, ◌==◌, nat_lt}
+use Rattle.std.specs.Prelude.{ℕ, zero, suc, Bool, false, cond, not, ◌&&◌, ◌||◌, Some, None, Option, ◌==◌, nat_lt}
+use Rattle.std.specs.List.{list_all, range_with_len}
 use Rattle.costs.specs.Kind.{Costs}
 use Rattle.sheets.specs.Graph.{Edge, Graph}
 use Rattle.sheets.specs.Sheet.{Sheet}
 
 -- p holds of every number below n.
 unfoldable pub all_below : (ℕ → Bool) → ℕ → Bool
-all_below p zero = true
-all_below p (suc n) = p n && all_below p n
+all_below p n = list_all p (range_with_len 0 n)
 
 -- Two costs are the same: each is at most the other.
 abbrev pub same_cost : {V : Type 0} → Costs V → V → V → Bool

@@ -1,0 +1,143 @@
+ghost use Rattle.std.specs.Prelude.{◌≡◌, ◌<◌, length, IfOk, MatchResult};
+ghost use Rattle.sheets.specs.Graph.{edge_of};
+ghost use Rattle.sheets.specs.Verdict.{request as request_of, relaxed, tight_into, lines_hold, before, leads_back, fits, station_holds, stations_hold, verdict};
+ghost use Rattle.sheets.specs.Tables.{read_row, graph, sheet};
+ghost use Rattle.sheets.specs.Check.{admitted};
+
+use crate::comparing::{is_none, same_cost};
+use crate::row::Row;
+use costs::{CostKind, line_cost};
+use nets::{Line, Lines, Net, Refusal};
+use std::iter::successors;
+
+// What a call on a sheet was admitted with: a net, a gateway that is one of its stations, and a table with one row for each.
+#[derive(Drop)]
+pub(crate) struct Admitted<'a, N: Net, K: CostKind> {
+    net: &'a N,
+    gateway: usize,
+    rows: &'a [Row<K::Cost>],
+    ghost station: { gateway < (N.Net.meant net.now).stations },
+    ghost size: { length rows.now ≡ (N.Net.meant net.now).stations },
+}
+
+impl<'a, N: Net, K: CostKind> Admitted<'a, N, K> {
+    // Refuses a gateway that is not a station, then a table that has not one row for each station.
+    pub(crate) fn admit(
+        net: &'a N,
+        gateway: usize,
+        rows: &'a [Row<K::Cost>],
+    ) -> Result<Self, Refusal>
+        ensures answer { let answer = admitted (N.Net.meant net.now) gateway (length rows.now) in MatchResult result (λ _. answer ≡ Ok tt) (λ e. answer ≡ Err e) }
+        ensures net { IfOk result (λ a. a.net.now ≡ net.now) }
+        ensures gateway { IfOk result (λ a. a.gateway ≡ gateway) }
+        ensures rows { IfOk result (λ a. a.rows.now ≡ rows.now) }
+    {
+        if gateway >= net.stations() {
+            return Err(Refusal::NoSuchGateway);
+        }
+        if rows.len() != net.stations() {
+            return Err(Refusal::TableLength);
+        }
+        Ok(Admitted { net, gateway, rows })
+    }
+
+    // The row of station v. Past the end of the table it is the blank row, so no caller needs to know that v is a station.
+    fn row(&self, v: usize) -> Row<K::Cost>
+        ensures { read_row K.CostKind.value result ≡ sheet K.CostKind self.now.rows.now v }
+    {
+        self.rows.get(v).copied().unwrap_or(Row {
+            cost: K::none(),
+            via: None,
+        })
+    }
+
+    // The request of a line: the cost of its from station joined with its own.
+    fn request(&self, line: Line) -> K::Cost
+        ensures { K.CostKind.value result ≡ request_of K.CostKind.ops (sheet K.CostKind self.now.rows.now) (edge_of K.CostKind.ops line) }
+    {
+        K::join(self.row(line.from as usize).cost, line_cost::<K>(line))
+    }
+
+    // Whether a line is relaxed: its request is not below the cost of its to station.
+    fn is_relaxed(&self, line: Line) -> bool
+        ensures { result ≡ relaxed K.CostKind.ops (sheet K.CostKind self.now.rows.now) (edge_of K.CostKind.ops line) }
+    {
+        K::at_most(self.row(line.to as usize).cost, self.request(line))
+    }
+
+    // Whether every line is relaxed.
+    fn lines_relaxed(&self) -> bool
+        ensures { result ≡ lines_hold K.CostKind.ops (graph K.CostKind (N.Net.meant self.now.net.now)) (sheet K.CostKind self.now.rows.now) }
+    {
+        Lines::of(self.net).all(|line| self.is_relaxed(line))
+    }
+
+    // Whether a line leads into station v, and its request is the cost of v.
+    fn is_tight_into(&self, v: usize, line: Line) -> bool
+        ensures { result ≡ tight_into K.CostKind.ops (sheet K.CostKind self.now.rows.now) v (edge_of K.CostKind.ops line) }
+    {
+        line.to as usize == v && same_cost::<K>(self.request(line), self.row(v).cost)
+    }
+
+    // Whether there is a line k, it leads into station v, and its request is the cost of v.
+    fn via_fits(&self, v: usize, k: usize) -> bool
+        ensures { result ≡ fits K.CostKind.ops (graph K.CostKind (N.Net.meant self.now.net.now)) (sheet K.CostKind self.now.rows.now) v k }
+    {
+        // `is_some_and` was tried: of what its closure answers here, a proof then knows nothing.
+        match self.net.line(k) {
+            Some(line) => self.is_tight_into(v, line),
+            None => false,
+        }
+    }
+
+    // The station from which the via of station v comes, if it has one that is a line.
+    fn previous(&self, v: usize) -> Option<usize>
+        ensures { result ≡ before (graph K.CostKind (N.Net.meant self.now.net.now)) (sheet K.CostKind self.now.rows.now v).via }
+    {
+        let via = self.row(v).via?;
+        let line = self.net.line(via)?;
+        Some(line.from as usize)
+    }
+
+    // Whether the gateway is among the first stations that are met from v on, following vias back: as many as there are rows.
+    fn leads_back(&self, v: usize) -> bool
+        ensures { result ≡ leads_back (graph K.CostKind (N.Net.meant self.now.net.now)) (sheet K.CostKind self.now.rows.now) self.now.gateway (length self.now.rows.now) v }
+    {
+        successors(Some(v), |u| self.previous(*u))
+            .take(self.rows.len())
+            .any(|u| u == self.gateway)
+    }
+
+    // Whether the row of station v holds. Without a via the gateway costs start, and every other station none. With one, v is not the
+    // gateway, it has a cost, the via fits, and it leads back to the gateway.
+    fn station_holds(&self, v: usize) -> bool
+        ensures { result ≡ station_holds K.CostKind.ops (graph K.CostKind (N.Net.meant self.now.net.now)) self.now.gateway (sheet K.CostKind self.now.rows.now) v }
+    {
+        let row = self.row(v);
+        match row.via {
+            None if v == self.gateway => same_cost::<K>(row.cost, K::start()),
+            None => is_none::<K>(row.cost),
+            Some(k) => {
+                v != self.gateway
+                    && !is_none::<K>(row.cost)
+                    && self.via_fits(v, k)
+                    && self.leads_back(v)
+            }
+        }
+    }
+
+    // Whether every station's row holds.
+    #[tactic(auto, unfolding(crate::specs::Verdict::all_below))]
+    fn stations_hold(&self) -> bool
+        ensures { result ≡ stations_hold K.CostKind.ops (graph K.CostKind (N.Net.meant self.now.net.now)) self.now.gateway (sheet K.CostKind self.now.rows.now) }
+    {
+        (0..self.rows.len()).all(|v| self.station_holds(v))
+    }
+
+    // Whether every line is relaxed and every station's row holds.
+    pub(crate) fn holds(&self) -> bool
+        ensures { result ≡ verdict K.CostKind.ops (graph K.CostKind (N.Net.meant self.now.net.now)) self.now.gateway (sheet K.CostKind self.now.rows.now) }
+    {
+        self.lines_relaxed() && self.stations_hold()
+    }
+}
