@@ -1,8 +1,7 @@
 -- What the check's answer tells of the sheet. Assumes nothing.
-use Rattle.std.proofs.Common.{◌≡◌, ℕ, ◌<◌, Bool, true, false, cond, eqb, ltb, List, length, Ok, Err, Result, sym, refl, ap, ◌∙◌, arith}
-use Rattle.std.proofs.lemmas.Bool.{eqb-true, eq-eqb, ltb-true, lt-ltb}
+use Rattle.std.proofs.Common.{◌≡◌, ℕ, ◌<◌, Bool, true, List, length, Ok, Result, sym, ap, ◌∙◌, arith}
+use Rattle.std.proofs.lemmas.Bool.Decides.{nat_tests}
 use Rattle.nets.specs.declared.refusal.Refusal.{Refusal}
-use Rattle.nets.specs.declared.refusal.Refusal.TheVariants.{NoSuchGateway, TableLength}
 use Rattle.nets.specs.Model.{Model, Sound}
 use Rattle.costs.specs.Kind.{Laws}
 use Rattle.costs.specs.declared.kind.CostKind.{Ghosts as Kind}
@@ -15,28 +14,16 @@ use Rattle.sheets.proofs.Verdicts.{yes_right, right_yes}
 use Rattle.sheets.proofs.Agreement.{right_sheets_agree, one_gateway, shown_routes}
 
 -- a call that is answered was admitted
-pub record Admitted {A : Type 0} (m : Model) (g size : ℕ) (a b : A) : Type 0 where
+pub record Admits {A : Type 0} (m : Model) (g size : ℕ) (a b : A) : Type 0 where
   pub station : g < m.stations
   pub table : size ≡ m.stations
   pub answer : a ≡ b
 
-ok_same : {A E : Type 0} {a b : A} → ◌≡◌ {A = Result A E} (Ok a) (Ok b) → a ≡ b
-ok_same e = cc
-
-err_is_not_ok : {A E P : Type 0} {e : E} {a : A} → ◌≡◌ {A = Result A E} (Err e) (Ok a) → P
-err_is_not_ok q = let z : ◌≡◌ {A = ℕ} 0 1 = cc in absurd (omega arith)
-
-by_tests : {A : Type 0} (m : Model) (g size : ℕ) (x y : Bool) (a b : A) → ltb g m.stations ≡ x → eqb size m.stations ≡ y
-    → answered (cond x (cond y (Ok tt) (Err TableLength)) (Err NoSuchGateway)) a ≡ Ok b → Admitted m g size a b
-by_tests m g size true true a b p q e = record { station = ltb-true _ _ p; table = eqb-true _ _ q; answer = ok_same e }
-by_tests m g size true false a b p q e = err_is_not_ok e
-by_tests m g size false y a b p q e = err_is_not_ok e
-
-pub admitted_says : {A : Type 0} (m : Model) (g size : ℕ) (a b : A) → answered (admitted m g size) a ≡ Ok b → Admitted m g size a b
-admitted_says m g size a b e = by_tests m g size (ltb g m.stations) (eqb size m.stations) a b refl refl e
+pub admitted_says : {A : Type 0} (m : Model) (g size : ℕ) (a b : A) → answered (admitted m g size) a ≡ Ok b → Admits m g size a b
+admitted_says m g size a b e = record { station = grind (arith, nat_tests); table = grind (arith, nat_tests); answer = grind (arith, nat_tests) }
 
 pub admitted_from : (m : Model) (g size : ℕ) → g < m.stations → size ≡ m.stations → admitted m g size ≡ Ok tt
-admitted_from m g size h e = rw (lt-ltb g m.stations h, eq-eqb size m.stations e)
+admitted_from m g size h e = grind (arith, nat_tests)
 
 module _ {K C V : Type 0} (kind : Kind K C V) (L : Laws kind.ops) (m : Model) (ok : Sound m) (g : ℕ) (rows : List (Row C)) where
   net_within : Within (graph kind m)

@@ -1,5 +1,5 @@
 -- A sheet is right exactly if it is consistent: what can be seen of it line by line and by following vias. Assumes nothing.
-use Rattle.std.proofs.Common.{◌≡◌, ℕ, ◌<◌, List, [], ◌∷◌, ◌++◌, reverse, Some, None, Option, sym, refl, ap, ◌∙◌, subst, ⊎_elim, arith}
+use Rattle.std.proofs.Common.{◌≡◌, ℕ, ◌<◌, List, [], ◌∷◌, ◌++◌, reverse, Some, None, sym, refl, ap, ◌∙◌, subst, ⊎_elim}
 use Rattle.std.proofs.lemmas.List.{reverse-reverse}
 use mathlib.Core.List.{reverse-cons}
 use Rattle.costs.specs.Kind.{Costs, Laws, AtMost}
@@ -25,11 +25,9 @@ pub record Consistent {V : Type 0} (K : Costs V) (G : Graph V) (g : ℕ) (s : Sh
   pub vias : (v : ℕ) → v < G.stations → (v ≡ g → ⊥) → ((s v).cost ≡ K.none → ⊥) → (k : ℕ) × ((s v).via ≡ Some k) × Fits K G s v k
   pub back : (v : ℕ) → v < G.stations → ((s v).cost ≡ K.none → ⊥) → (ks : List ℕ) × Back G s g v ks
 
-pub some_same : (a b : ℕ) (o : Option ℕ) → o ≡ Some a → o ≡ Some b → a ≡ b
-some_same a b o p q = cc
-
-pub none_is_not_some : (a : ℕ) (o : Option ℕ) → o ≡ None → o ≡ Some a → ⊥
-none_is_not_some a o p q = let z : ◌≡◌ {A = ℕ} 0 1 = cc in omega arith
+-- a station with a via is not the gateway
+pub not_gateway : {V : Type 0} (g : ℕ) (s : Sheet V) → (s g).via ≡ None → (v k : ℕ) → (s v).via ≡ Some k → v ≡ g → ⊥
+not_gateway g s no-via v k via e = cc
 
 module _ {V : Type 0} (K : Costs V) (L : Laws K) (G : Graph V) (W : Within G) (g : ℕ) (s : Sheet V) where
   -- along what leads from u, costs rise at most as the lines' costs do
@@ -43,8 +41,9 @@ module _ {V : Type 0} (K : Costs V) (L : Laws K) (G : Graph V) (W : Within G) (g
   -- a via fits
   pub via_fits : Consistent K G g s → (v k : ℕ) → v < G.stations → ((s v).cost ≡ K.none → ⊥) → (s v).via ≡ Some k → Fits K G s v k
   via_fits S v k h some e =
-      let found = S.vias v h (λ q. none_is_not_some k (s v).via (ap (λ x. (s x).via) q ∙ S.gateway) e) some in
-      rw (some_same found.0 k (s v).via found.1 e) at found.2
+      let found = S.vias v h (not_gateway g s S.gateway v k e) some in
+      let same : found.0 ≡ k = cc (found.1, e) in
+      rw same at found.2
 
   -- the lines met in following vias back, the other way round, lead to v at the cost that its row has
   pub back_leads : Consistent K G g s → (bs : List ℕ) (v : ℕ) → v < G.stations → ((s v).cost ≡ K.none → ⊥) → Back G s g v bs

@@ -1,6 +1,8 @@
 -- The verdict is yes exactly for a right sheet. Assumes nothing.
-use Rattle.std.proofs.Common.{◌≡◌, ℕ, ◌<◌, true, eqb, ◌⊎◌, [], Some, None, Option, sym, refl, ap, ◌∙◌, inl, inr, ⊎_elim}
-use Rattle.std.proofs.lemmas.Bool.{both_ways, cases_Bool, cases_eq, cond-true, cond-false, and_from, and_parts, eqb-true, eqb-false, eq-eqb, ne_eqb, ltb-true, lt-ltb, not-true, not_from_false}
+use Rattle.std.proofs.Common.{arith, ◌≡◌, ℕ, ◌<◌, true, eqb, [], Some, None, Option, sym, refl, ap, ◌∙◌, ⊎_elim}
+use Rattle.std.proofs.lemmas.Bool.{both_ways, cases_Bool, cases_eq, and_from, and_parts, eqb-true, eqb-false, eq-eqb, ne_eqb, not-true, not_from_false}
+use Rattle.std.proofs.lemmas.Bool.Decides.{nat_tests}
+use Rattle.std.proofs.lemmas.Option.{none-some}
 use Rattle.costs.specs.Kind.{Costs, Laws}
 use Rattle.costs.proofs.Order
 use Rattle.sheets.specs.Graph.{Graph}
@@ -10,35 +12,24 @@ use Rattle.sheets.specs.Verdict.{same_cost, relaxed, fits, leads_back, row_holds
 use Rattle.sheets.proofs.Within.{Within}
 use Rattle.sheets.proofs.Tested.{all_says, all_from}
 use Rattle.sheets.proofs.Consistency
-use Rattle.sheets.proofs.Consistency.{Consistent, none_is_not_some}
+use Rattle.sheets.proofs.Consistency.{Consistent, not_gateway}
 use Rattle.sheets.proofs.WalksBack.{back_from_leads, leads_from_back, back_short}
 
 module _ {V : Type 0} (K : Costs V) (L : Laws K) where
   same_says : (a b : V) → same_cost K a b ≡ true → a ≡ b
-  same_says a b e = let p = and_parts _ _ e in L.antisym a b p.0 p.1
+  same_says a b e = L.antisym a b (grind arith) (grind arith)
 
   same_from : (a b : V) → a ≡ b → same_cost K a b ≡ true
   same_from a b e = and_from _ _ (Order.le_of_eq K L a b e) (Order.le_of_eq K L b a (sym e))
 
   module _ (G : Graph V) (W : Within G) (g : ℕ) (s : Sheet V) where
     fits_says : (v k : ℕ) → fits K G s v k ≡ true → Fits K G s v k
-    fits_says v k e =
-        let p = and_parts _ _ e in
-        let q = and_parts _ _ p.1 in
-        record { counts = ltb-true _ _ p.0; into = eqb-true _ _ q.0; adds_up = same_says _ _ q.1 }
+    fits_says v k e = record { counts = grind (arith, nat_tests); into = grind (arith, nat_tests); adds_up = same_says _ _ (grind (arith, nat_tests)) }
 
     fits_from : (v k : ℕ) → Fits K G s v k → fits K G s v k ≡ true
-    fits_from v k f = and_from _ _ (lt-ltb _ _ f.counts) (and_from _ _ (eq-eqb _ _ f.into) (same_from _ _ f.adds_up))
+    fits_from v k f = let same = same_from _ _ f.adds_up in grind (arith, nat_tests)
 
-    -- what a row that holds says: without a via v is the gateway at start, or costs none;
-    without_via : (v : ℕ) → row_holds K G g s v None ≡ true → ((v ≡ g) × ((s v).cost ≡ K.start)) ⊎ ((v ≡ g → ⊥) × ((s v).cost ≡ K.none))
-    without_via v e =
-        ⊎_elim
-        (λ b. inl (eqb-true v g b, same_says _ _ (sym (cond-true (eqb v g) _ _ b) ∙ e)))
-        (λ b. inr (eqb-false v g b, Order.none_top K L _ (sym (cond-false (eqb v g) _ _ b) ∙ e)))
-        (cases_Bool (eqb v g))
-
-    -- with one it is neither, and the via fits and leads back
+    -- what a row with a via says
     pub record ByVia (v k : ℕ) : Type 0 where
       pub not_gateway : v ≡ g → ⊥
       pub some : (s v).cost ≡ K.none → ⊥
@@ -63,12 +54,10 @@ module _ {V : Type 0} (K : Costs V) (L : Laws K) where
       cut : (s v).via ≡ None → (v ≡ g → ⊥) → (s v).cost ≡ K.none → Known v
       by_via : (k : ℕ) → (s v).via ≡ Some k → ByVia v k → Known v
 
-    known_by : (v : ℕ) (o : Option ℕ) → (s v).via ≡ o → row_holds K G g s v o ≡ true → Known v
-    known_by v None q e = ⊎_elim (λ h. at_gateway q h.0 h.1) (λ h. cut q h.0 h.1) (without_via v e)
-    known_by v (Some k) q e = by_via k q (with_via v k e)
-
-    known : (v : ℕ) → station_holds K G g s v ≡ true → Known v
-    known v e = known_by v (s v).via refl e
+    known : (v : ℕ) (o : Option ℕ) → (s v).via ≡ o → row_holds K G g s v o ≡ true → Known v
+    known v None q e =
+        ⊎_elim (λ b. at_gateway q (eqb-true v g b) (same_says _ _ (rw b at e))) (λ b. cut q (eqb-false v g b) (Order.none_top K L _ (rw b at e))) (cases_Bool (eqb v g))
+    known v (Some k) q e = by_via k q (with_via v k e)
 
     gateway_says : Known g → ((s g).cost ≡ K.start) × ((s g).via ≡ None)
     gateway_says (at_gateway no-via q e) = (e, no-via)
@@ -88,7 +77,7 @@ module _ {V : Type 0} (K : Costs V) (L : Laws K) where
     pub yes_right : g < G.stations → verdict K G g s ≡ true → Right K G g s
     yes_right station e =
         let p = and_parts _ _ e in
-        let at : (v : ℕ) → v < G.stations → Known v = λ v h. known v (all_says (station_holds K G g s) G.stations p.1 v h) in
+        let at : (v : ℕ) → v < G.stations → Known v = λ v h. known v (s v).via refl (all_says (station_holds K G g s) G.stations p.1 v h) in
         let start = gateway_says (at g station) in
         Consistency.consistent_is_right K L G W g s (record {
           station = station;
@@ -100,24 +89,24 @@ module _ {V : Type 0} (K : Costs V) (L : Laws K) where
           back = λ v h some.
               ⊎_elim
               (λ q. ([], q))
-              (λ ne. let k = via_says v (at v h) ne some in let b = back_from_leads G s g G.stations v k.2.back in (b.0, b.1))
+              (λ ne. let k = via_says v (at v h) ne some in back_from_leads G s g G.stations v k.2.back)
               (cases_eq v g);
         })
 
     row_from : Consistent K G g s → (v : ℕ) → v < G.stations → (o : Option ℕ) → (s v).via ≡ o → row_holds K G g s v o ≡ true
     row_from S v h None q =
         ⊎_elim
-        (λ e. cond-true (eqb v g) _ _ (eq-eqb v g e) ∙ same_from _ _ (ap (λ x. (s x).cost) e ∙ S.starts))
+        (λ e. rw (eq-eqb v g e) (same_from _ _ (ap (λ x. (s x).cost) e ∙ S.starts)))
         (λ ne.
-        cond-false (eqb v g) _ _ (ne_eqb v g ne)
-        ∙ ⊎_elim
+        rw (ne_eqb v g ne)
+        (⊎_elim
         (λ e. Order.le_of_eq K L _ _ (sym e))
-        (λ some. absurd (none_is_not_some (S.vias v h ne some).0 (s v).via q (S.vias v h ne some).1))
-        (Order.none_or_some K L (s v).cost))
+        (λ some. let via = S.vias v h ne some in absurd (none-some via.0 (sym q ∙ via.1)))
+        (Order.none_or_some K L (s v).cost)))
         (cases_eq v g)
     row_from S v h (Some k) q =
-        let ne : v ≡ g → ⊥ = λ e. none_is_not_some k (s v).via (ap (λ x. (s x).via) e ∙ S.gateway) q in
-        let some : (s v).cost ≡ K.none → ⊥ = λ e. none_is_not_some k (s v).via (S.cut_off v h e) q in
+        let ne = not_gateway g s S.gateway v k q in
+        let some : (s v).cost ≡ K.none → ⊥ = λ e. none-some k (sym (S.cut_off v h e) ∙ q) in
         let fit = Consistency.via_fits K L G W g s S v k h some q in
         let b = S.back v h some in
         and_from _ _
