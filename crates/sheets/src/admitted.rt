@@ -83,11 +83,9 @@ impl<'a, N: Net, K: CostKind> Admitted<'a, N, K> {
     fn via_fits(&self, v: usize, k: usize) -> bool
         ensures { result ≡ fits K.CostKind.ops (graph K.CostKind (N.Net.meant self.now.net.now)) (sheet K.CostKind self.now.rows.now) v k }
     {
-        // `is_some_and` was tried: of what its closure answers here, a proof then knows nothing.
-        match self.net.line(k) {
-            Some(line) => self.is_tight_into(v, line),
-            None => false,
-        }
+        // Written inside the call, the closure tells a proof nothing of what it answers.
+        let is_tight = |line| self.is_tight_into(v, line);
+        self.net.line(k).is_some_and(is_tight)
     }
 
     // The station from which the via of station v comes, if it has one that is a line.

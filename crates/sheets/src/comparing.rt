@@ -7,7 +7,7 @@ use costs::CostKind;
 pub(crate) fn same_cost<K: CostKind>(a: K::Cost, b: K::Cost) -> bool
     ensures { result ≡ same_cost K.CostKind.ops (K.CostKind.value a) (K.CostKind.value b) }
 {
-    K::at_most(a, b) & K::at_most(b, a)
+    K::at_most(a, b) && K::at_most(b, a)
 }
 
 // Whether a cost means none: none is at most it.
