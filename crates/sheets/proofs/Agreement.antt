@@ -17,7 +17,7 @@ use Rattle.sheets.specs.Right.{Right}
 use Rattle.sheets.specs.SameLines.{SameLines}
 use Rattle.sheets.proofs.Within.{Within}
 use Rattle.sheets.proofs.RouteCosts
-use Rattle.sheets.proofs.Consistency.{not_gateway, right_starts, right_is_consistent, back_leads}
+use Rattle.sheets.proofs.Consistency.{right_starts, right_is_consistent, back_leads, via_not_gateway}
 
 -- each line of G is some line of H
 abbrev Holds : {V : Type 0} → Graph V → Graph V → Type 0
@@ -66,7 +66,7 @@ module _ {V : Type 0} (K : Costs V) (L : Laws K) where
         ⊎_elim (λ e. e)
         (λ ne.
         let via = R.vias h Q.station ne (λ e. L.start_not_none (sym (right_starts K L G W h s Q) ∙ e)) in
-        absurd (not_gateway h s Q.gateway h via.0 via.1 refl))
+        absurd (via_not_gateway h s Q.gateway h via.0 via.1 refl))
         (cases_eq h g)
 
     pub shown_routes : (g : ℕ) → Right K G g s → (v : ℕ) (ks : List ℕ) → v < G.stations → Shows K G g s v ks → Route K G g v ks × (route_cost K G ks ≡ (s v).cost)

@@ -26,8 +26,8 @@ pub record Consistent {V : Type 0} (K : Costs V) (G : Graph V) (g : ℕ) (s : Sh
   pub back : (v : ℕ) → v < G.stations → ((s v).cost ≡ K.none → ⊥) → (ks : List ℕ) × Back G s g v ks
 
 -- a station with a via is not the gateway
-pub not_gateway : {V : Type 0} (g : ℕ) (s : Sheet V) → (s g).via ≡ None → (v k : ℕ) → (s v).via ≡ Some k → v ≡ g → ⊥
-not_gateway g s no-via v k via e = cc
+pub via_not_gateway : {V : Type 0} (g : ℕ) (s : Sheet V) → (s g).via ≡ None → (v k : ℕ) → (s v).via ≡ Some k → v ≡ g → ⊥
+via_not_gateway g s no-via v k via e = cc
 
 module _ {V : Type 0} (K : Costs V) (L : Laws K) (G : Graph V) (W : Within G) (g : ℕ) (s : Sheet V) where
   -- along what leads from u, costs rise at most as the lines' costs do
@@ -41,7 +41,7 @@ module _ {V : Type 0} (K : Costs V) (L : Laws K) (G : Graph V) (W : Within G) (g
   -- a via fits
   pub via_fits : Consistent K G g s → (v k : ℕ) → v < G.stations → ((s v).cost ≡ K.none → ⊥) → (s v).via ≡ Some k → Fits K G s v k
   via_fits S v k h some e =
-      let found = S.vias v h (not_gateway g s S.gateway v k e) some in
+      let found = S.vias v h (via_not_gateway g s S.gateway v k e) some in
       let same : found.0 ≡ k = cc (found.1, e) in
       rw same at found.2
 

@@ -12,7 +12,7 @@ use Rattle.sheets.specs.Verdict.{same_cost, relaxed, fits, leads_back, row_holds
 use Rattle.sheets.proofs.Within.{Within}
 use Rattle.sheets.proofs.Tested.{all_says, all_from}
 use Rattle.sheets.proofs.Consistency
-use Rattle.sheets.proofs.Consistency.{Consistent, not_gateway}
+use Rattle.sheets.proofs.Consistency.{Consistent, via_not_gateway}
 use Rattle.sheets.proofs.WalksBack.{back_from_leads, leads_from_back, back_short}
 
 module _ {V : Type 0} (K : Costs V) (L : Laws K) where
@@ -105,7 +105,7 @@ module _ {V : Type 0} (K : Costs V) (L : Laws K) where
         (Order.none_or_some K L (s v).cost)))
         (cases_eq v g)
     row_from S v h (Some k) q =
-        let ne = not_gateway g s S.gateway v k q in
+        let ne = via_not_gateway g s S.gateway v k q in
         let some : (s v).cost ≡ K.none → ⊥ = λ e. none-some k (sym (S.cut_off v h e) ∙ q) in
         let fit = Consistency.via_fits K L G W g s S v k h some q in
         let b = S.back v h some in

@@ -6,7 +6,7 @@ use Rattle.std.proofs.lemmas.Map.Steps.{length-le_from_distinct_below}
 use Rattle.sheets.specs.Graph.{Graph}
 use Rattle.sheets.specs.Sheet.{Sheet, Back}
 use Rattle.sheets.specs.Verdict.{before, holds_of, leads_back}
-use Rattle.sheets.proofs.Consistency.{not_gateway}
+use Rattle.sheets.proofs.Consistency.{via_not_gateway}
 use Rattle.sheets.proofs.Successors.{first_items}
 use Rattle.sheets.proofs.Within.{Within}
 
@@ -50,8 +50,8 @@ module _ {V : Type 0} (G : Graph V) (s : Sheet V) (g : ℕ) where
     -- the way back from a station has one length,
     same_length : (ks js : List ℕ) (v : ℕ) → Back G s g v ks → Back G s g v js → length ks ≡ length js
     same_length [] [] v b c = refl
-    same_length [] (j ∷ js) v b c = absurd (not_gateway g s no-via v j c.0 b)
-    same_length (k ∷ ks) [] v b c = absurd (not_gateway g s no-via v k b.0 c)
+    same_length [] (j ∷ js) v b c = absurd (via_not_gateway g s no-via v j c.0 b)
+    same_length (k ∷ ks) [] v b c = absurd (via_not_gateway g s no-via v k b.0 c)
     same_length (k ∷ ks) (j ∷ js) v b c =
         let same : j ≡ k = cc (b.0, c.0) in
         let rest = same_length ks js (G.line k).from b.2 (subst (λ i. Back G s g (G.line i).from js) same c.2) in
