@@ -1,7 +1,8 @@
 -- The groups of a number one after another, as the loop that reads it goes. Assumes nothing.
-use Rattle.std.proofs.Common.{◌≡◌, ℕ, zero, suc, ◌+◌, ◌-◌, ◌*◌, ◌^◌, ◌<◌, ◌≤◌, ◌⊎◌, List, [], ◌∷◌, length, get_or, drop, Ok, Err, sym, refl, ◌∙◌, inl, inr, mul-le-mul_right, pow-suc, add-one, arith, lit≤}
+use Rattle.std.proofs.Common.{◌≡◌, ℕ, zero, suc, ◌+◌, ◌-◌, ◌*◌, ◌^◌, ◌<◌, ◌≤◌, ◌⊎◌, List, Result, [], ◌∷◌, length, get_or, drop, Ok, Err, sym, length-drop, refl, ◌∙◌, inl, inr, mul-le-mul_right, pow-suc, add-one, arith, lit≤}
 use Rattle.std.proofs.lemmas.List.{at_drop_more, at_drop_all}
 use Rattle.std.proofs.lemmas.Bool.Decides.{nat_tests}
+use Rattle.books.specs.declared.number.NumberError.{NumberError}
 use Rattle.books.specs.declared.number.NumberError.TheVariants.{Cut, TooLarge, Padded}
 use Rattle.books.specs.Number.{number, number_from}
 
@@ -69,3 +70,9 @@ count_within_from k low v n (b ∷ bs) e =
 
 pub count_within : (v n : ℕ) (bs : List ℕ) → number bs ≡ Ok (v, n) → n ≤ length bs
 count_within v n bs e = omega (arith, count_within_from 0 0 v n bs e)
+
+-- the place behind a number that is read
+pub place_fits : (book : List ℕ) (at : ℕ) (r : Result (ℕ × ℕ) NumberError) (x : ℕ × ℕ) → length book < 2 ^ 63 → at < 2 ^ 64
+    → r ≡ number (drop at book) → r ≡ Ok x → at + x.1 < 2 ^ 64
+place_fits book at r x short low e f =
+    let n = count_within x.0 x.1 (drop at book) (sym e ∙ f) in omega (arith, length-drop at book)

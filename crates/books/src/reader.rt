@@ -42,14 +42,14 @@ impl<'a> Reader<'a> {
     }
 
     // The number at the cursor with the place after it; the cursor stays.
+    #[tactic(auto, using(crate::proofs::NumberRead::place_fits))]
     fn peek(&self) -> Result<(u32, usize), NumberFault>
         ensures { result ≡ number_at self.now.book.now self.now.at }
     {
         let place = self.at;
-        match read_number(self.rest()) {
-            Ok((value, count)) => Ok((value, place + count)),
-            Err(error) => Err(NumberFault { place, error }),
-        }
+        read_number(self.rest())
+            .map(|(value, count)| (value, place + count))
+            .map_err(|error| NumberFault { place, error })
     }
 
     fn edition(&mut self) -> Result<u32, BookFault>
@@ -166,12 +166,11 @@ impl<'a> Reader<'a> {
     }
 
     // The record of a line, in a book of so many stations.
+    #[tactic(auto, unfolding(crate::specs::Records::record_at))]
     pub fn record(&mut self, line: usize, stations: usize) -> Result<Line, RecordFault>
         ensures { Reads fault_place (record_at line stations) self.old self.new result }
     {
-        match self.fields(stations) {
-            Ok(record) => Ok(record),
-            Err(error) => Err(RecordFault { line, error }),
-        }
+        self.fields(stations)
+            .map_err(|error| RecordFault { line, error })
     }
 }
