@@ -6,29 +6,12 @@ use Rattle.books.specs.declared.number.NumberError.{NumberError}
 use Rattle.books.specs.declared.number.NumberError.TheVariants.{Cut, TooLarge, Padded}
 use Rattle.books.specs.Number.{number, number_from}
 
--- the number, where k groups that stand for `low` are read
-module _ (bs : List ℕ) (k low : ℕ) (inv : number bs ≡ number_from k low (drop k bs)) where
-  pub at_short : length bs ≤ k → Err Cut ≡ number bs
-  at_short h = sym (inv ∙ at_drop_all (number_from k low) bs k h)
-
-  module _ (h : k < length bs) where
-    pub at_large : k ≡ 4 → 15 < get_or bs k 0 → Err TooLarge ≡ number bs
-    at_large p q =
-        let e = inv ∙ at_drop_more (number_from k low) bs k 0 h in grind (arith, nat_tests)
-
-    pub at_padded : get_or bs k 0 ≡ 0 → 0 < k → Err Padded ≡ number bs
-    at_padded p q =
-        let e = inv ∙ at_drop_more (number_from k low) bs k 0 h in grind (arith, nat_tests)
-
-    pub at_last : (k ≡ 4 → 15 < get_or bs k 0 → ⊥) → get_or bs k 0 < 128 → (0 < k → get_or bs k 0 ≡ 0 → ⊥)
-        → Ok (low + get_or bs k 0 * 128 ^ k, k + 1) ≡ number bs
-    at_last p q r =
-        let e = inv ∙ at_drop_more (number_from k low) bs k 0 h in grind (arith, nat_tests)
-
-    pub at_more : (k ≡ 4 → 15 < get_or bs k 0 → ⊥) → 128 ≤ get_or bs k 0
-        → number bs ≡ number_from (k + 1) (low + (get_or bs k 0 - 128) * 128 ^ k) (drop (k + 1) bs)
-    at_more p q =
-        let e = inv ∙ at_drop_more (number_from k low) bs k 0 h in grind (arith, nat_tests)
+-- k groups of the number are read, they stand for `low`, and the next counts `scale` times
+pub record Front (bs : List ℕ) (k low scale : ℕ) : Type 0 where
+  pub few : k < 5
+  pub power : scale ≡ 128 ^ k
+  pub below : low < scale
+  pub rest : number bs ≡ number_from k low (drop k bs)
 
 scales : (k : ℕ) → k < 5 → ((k ≡ 4) × (128 ^ k ≡ 268435456)) ⊎ ((k < 4) × (128 ^ k ≤ 2097152))
 scales zero h = inr (omega arith, lit≤ tt)
@@ -38,29 +21,50 @@ scales (suc (suc (suc zero))) h = inr (omega arith, lit≤ tt)
 scales (suc (suc (suc (suc zero)))) h = inl (refl, refl)
 scales (suc (suc (suc (suc (suc k))))) h = absurd (omega arith)
 
--- a last group fits 32 bits, with what the groups below it stand for
-pub last_fits : (k low s b : ℕ) → k < 5 → s ≡ 128 ^ k → low < s → b < 128 → (k ≡ 4 → 15 < b → ⊥)
-    → low + b * s < 2 ^ 32
-last_fits k low s b h e l q p =
-    elim (scales k h) [
-      | inl w ↦ let b15 : b ≤ 15 = grind arith in let m = mul-le-mul_right s b15 in omega (arith, w.1)
-      | inr w ↦ let b127 : b ≤ 127 = omega arith in let m = mul-le-mul_right s b127 in omega (arith, w.1)
-    ]
+module _ (bs : List ℕ) (k low s : ℕ) (f : Front bs k low s) where
+  pub at_end : length bs ≤ k → Err Cut ≡ number bs
+  at_end h = sym (f.rest ∙ at_drop_all (number_from k low) bs k h)
 
--- any group but the last
-pub group_fits : (k low s b : ℕ) → k < 5 → s ≡ 128 ^ k → low < s → b < 256 → 128 ≤ b → (k ≡ 4 → 15 < b → ⊥)
-    → (k + 1 < 5) × (low + (b - 128) * s < s * 128) × (s * 128 < 2 ^ 32)
-group_fits k low s b h e l f q p =
-    elim (scales k h) [
-      | inl w ↦ absurd (p w.0 (omega arith))
-      | inr w ↦
-          let b127 : b - 128 ≤ 127 = omega arith in
-          let m = mul-le-mul_right s b127 in
-          (omega (arith, w.0), omega arith, omega (arith, w.1))
-    ]
+  module _ (h : k < length bs) where
+    next : number bs ≡ number_from k low (get_or bs k 0 ∷ drop (k + 1) bs)
+    next = f.rest ∙ at_drop_more (number_from k low) bs k 0 h
 
-pub scale_more : (k s : ℕ) → s ≡ 128 ^ k → s * 128 ≡ 128 ^ (k + 1)
-scale_more k s e = rw (add-one, pow-suc, e)
+    pub at_large : k ≡ 4 → 15 < get_or bs k 0 → Err TooLarge ≡ number bs
+    at_large p q = let e = next in grind (arith, nat_tests)
+
+    pub at_padded : 0 < k → get_or bs k 0 ≡ 0 → Err Padded ≡ number bs
+    at_padded p q = let e = next in grind (arith, nat_tests)
+
+    module _ (small : (k ≡ 4) → get_or bs k 0 ≤ 15) where
+      -- the last group
+      pub last_fits : get_or bs k 0 < 128 → low + get_or bs k 0 * s < 2 ^ 32
+      last_fits q = let e = f.power in let l = f.below in
+          elim (scales k f.few) [
+            | inl w ↦ let m = mul-le-mul_right s (small w.0) in omega (arith, w.1)
+            | inr w ↦ let b127 : get_or bs k 0 ≤ 127 = omega arith in let m = mul-le-mul_right s b127 in omega (arith, w.1)
+          ]
+
+      pub at_last : get_or bs k 0 < 128 → (0 < k → get_or bs k 0 ≡ 0 → ⊥) → Ok (low + get_or bs k 0 * s, k + 1) ≡ number bs
+      at_last q r = let e = next in let p = f.power in rw p (grind (arith, nat_tests))
+
+      -- any group but the last
+      pub group_fits : 128 ≤ get_or bs k 0 → get_or bs k 0 < 256 → (low + (get_or bs k 0 - 128) * s < s * 128) × (s * 128 < 2 ^ 32)
+      group_fits q t = let e = f.power in let l = f.below in
+          elim (scales k f.few) [
+            | inl w ↦ absurd (omega (arith, small w.0))
+            | inr w ↦ let b127 : get_or bs k 0 - 128 ≤ 127 = omega arith in let m = mul-le-mul_right s b127 in (omega arith, omega (arith, w.1))
+          ]
+
+      pub at_more : 128 ≤ get_or bs k 0 → get_or bs k 0 < 256 → Front bs (k + 1) (low + (get_or bs k 0 - 128) * s) (s * 128)
+      at_more q t = let e = next in let p = f.power in record {
+        few = elim (scales k f.few) [ inl w ↦ absurd (omega (arith, small w.0)) | inr w ↦ omega (arith, w.0) ];
+        power = rw (add-one, pow-suc, p);
+        below = (group_fits q t).0;
+        rest = rw p (grind (arith, nat_tests));
+      }
+
+-- the steps of the loop that reads a number
+pub ruleset number_steps = (at_end, at_large, at_padded, last_fits, at_last, group_fits, at_more)
 
 -- a number that is read lies within its bytes
 pub count_within_from : (k low v n : ℕ) (bs : List ℕ) → number_from k low bs ≡ Ok (v, n) → n ≤ k + length bs

@@ -19,16 +19,13 @@ const MAX_BYTES: usize = 5;
 const MAX_FIFTH_BYTE: u8 = 15;
 
 // The number at the front of `bytes`, with the count of its bytes.
+#[tactic(auto, using(crate::proofs::NumberRead::number_steps))]
 pub fn read_number(bytes: &[u8]) -> Result<(u32, usize), NumberError>
     ensures { result ≡ number bytes.now }
 {
     let mut low: u32 = 0;
     let mut scale: u32 = 1;
-    for k in 0..MAX_BYTES {
-        if k >= bytes.len() {
-            return Err(NumberError::Cut);
-        }
-        let byte = bytes[k];
+    for (k, &byte) in bytes.iter().enumerate() {
         if k == 4 && byte > MAX_FIFTH_BYTE {
             return Err(NumberError::TooLarge);
         }
@@ -41,7 +38,7 @@ pub fn read_number(bytes: &[u8]) -> Result<(u32, usize), NumberError>
         low += (byte as u32 - 128) * scale;
         scale *= 128;
     }
-    unreachable()
+    Err(NumberError::Cut)
 }
 
 // How many bytes a number takes.
