@@ -1,5 +1,5 @@
 -- A run of bytes that is accepted is the book of the net that it means. Assumes nothing.
-use Rattle.std.proofs.Common.{◌≡◌, ℕ, zero, suc, ◌+◌, ◌<◌, ◌≤◌, Bool, true, false, cond, ◌&&◌, eqb, ltb, leb, List, [], ◌∷◌, ◌++◌, length, get_or, take, drop, Ok, Err, Result, sym, refl, ap, ◌∙◌, subst, append_assoc, append-nil, arith, take-append-drop}
+use Rattle.std.proofs.Common.{◌≡◌, ℕ, zero, suc, ◌+◌, ◌<◌, ◌≤◌, Bool, true, false, cond, ◌&&◌, eqb, ltb, leb, List, [], ◌∷◌, ◌++◌, length, get_or, Fits, w8, take, drop, Ok, Err, Result, sym, refl, ap, ◌∙◌, subst, append_assoc, append-nil, arith, take-append-drop}
 use Rattle.std.specs.List.{flat_map, AllByRecursion}
 use Rattle.std.proofs.ByRecursion.{All-drop, All-from_get_or}
 use Rattle.std.proofs.lemmas.List.{drop-drop, drop_all, take_at}
@@ -179,21 +179,13 @@ module _ (book : List ℕ) (bytes : Bytes book) where
             ∙ ap (λ k. flat_map encoding (1 ∷ head.0.stations ∷ k ∷ flat_map line_numbers records.0)) (sym n),
       ))))
 
-pub bytes_all : (bs : List ℕ) → ((i : ℕ) → get_or bs i 0 < 256) → Bytes bs
-bytes_all bs h = All-from_get_or (λ b. b < 256) bs 0 (λ i _. h i)
-
--- a table that was filled with the records of a book that was judged
-module _ (room : ℕ) (book : List ℕ) (bytes : Bytes book) (head : Head) (start : ℕ) (j : Judged room book head start) (table after : List Line)
-    (filled : after ≡ j.lines ++ drop head.lines table) where
-  pub filled_table : after ≡ table_after (reading room book) table
-  filled_table =
-      filled ∙ ap (λ n. j.lines ++ drop n table) (sym j.count) ∙ ap (λ r. table_after r table) (sym j.net)
-
-  -- the list net over the filled table is the net that was read
-  pub filled_accepted : Accepted room book head after
-  filled_accepted =
-      let m : Model = record { stations = head.stations; lines = j.lines } in
-      let b = is_book book bytes room m j.net in
-      let front : take head.lines after ≡ j.lines = ap (take head.lines) filled ∙ take_at j.lines (drop head.lines table) head.lines j.count in
-      let same : listed head.stations (take head.lines after) ≡ m = ap (listed head.stations) front ∙ listed_sound head.stations j.lines b.0 in
-      record { net = j.net ∙ ap Ok (sym same); again = ap book_of same ∙ sym b.1 }
+-- what a table holds that was filled from a book that was judged
+pub filled_accepted : (room : ℕ) (book : List ℕ) (head : Head) (start : ℕ) (table after : List Line) → Judged room book head start
+    → ((i : ℕ) → Fits w8 (get_or book i 0)) → after ≡ table_after (reading room book) table → Accepted room book head after
+filled_accepted room book head start table after j bytes filled =
+    let m : Model = record { stations = head.stations; lines = j.lines } in
+    let b = is_book book (All-from_get_or (λ b. b < 256) book 0 (λ i _. omega (arith, bytes i))) room m j.net in
+    let front : take head.lines after ≡ j.lines =
+    ap (take head.lines) (filled ∙ ap (λ r. table_after r table) j.net) ∙ take_at j.lines (drop (length j.lines) table) head.lines j.count in
+    let same : listed head.stations (take head.lines after) ≡ m = ap (listed head.stations) front ∙ listed_sound head.stations j.lines b.0 in
+    record { net = j.net ∙ ap Ok (sym same); again = ap book_of same ∙ sym b.1 }

@@ -1,15 +1,16 @@
--- How far a loop over records has come: what it has read, and that the rest of the reading is the whole. Assumes nothing.
-use Rattle.std.proofs.Common.{◌≡◌, ℕ, suc, ◌+◌, ◌-◌, ◌<◌, ◌≤◌, List, [], ◌∷◌, ◌++◌, length, drop, set, Ok, Err, Result, sym, refl, ap, ◌∙◌, append_assoc, append-nil, arith, Bor}
-use Rattle.std.proofs.lemmas.List.{drop_more, length_push, set_at}
+-- How far a loop over records has come, in that the rest of the reading gives the whole of it. Assumes nothing.
+use Rattle.std.proofs.Common.{◌≡◌, ℕ, suc, ◌+◌, ◌-◌, ◌<◌, ◌≤◌, List, [], ◌∷◌, ◌++◌, length, take, set, true, Ok, Err, Result, sym, refl, ap, ◌∙◌, append_assoc, append-nil, arith}
+use Rattle.std.specs.Result.{is_ok}
+use Rattle.std.proofs.lemmas.List.{take_all, take_more_set}
 use Rattle.nets.specs.declared.line.Line.{Line}
 use Rattle.books.specs.declared.fault.RecordFault.{RecordFault}
 use Rattle.books.specs.declared.reader.Reader.{Reader}
-use Rattle.books.specs.Cursor.{Reads, value_of, cursor_after}
+use Rattle.books.specs.Cursor.{Reads}
 use Rattle.books.specs.Faults.{fault_place}
-use Rattle.books.specs.Reading.{and_then}
-use Rattle.books.proofs.Readings.{ok_then, err_then, at_fault}
 use Rattle.books.specs.Judging.{passed}
+use Rattle.books.specs.Reading.{and_then}
 use Rattle.books.specs.Records.{record_at, records_at}
+use Rattle.books.proofs.Readings.{ok_then, err_then, at_fault, ok_same}
 
 abbrev Read : Type 0
 Read = Result (List Line × ℕ) RecordFault
@@ -22,79 +23,103 @@ behind_none : (r : Read) → r ≡ behind [] r
 behind_none (Ok x) = refl
 behind_none (Err e) = refl
 
-behind_more : (done : List Line) (l : Line) (r : Read)
-    → behind done (and_then r (λ rest. Ok (l ∷ rest.0, rest.1))) ≡ behind (done ++ l ∷ []) r
+behind_more : (done : List Line) (l : Line) (r : Read) → behind done (behind (l ∷ []) r) ≡ behind (done ++ l ∷ []) r
 behind_more done l (Ok x) = ap (λ (ls : List Line). Ok (ls, x.1)) (sym (append_assoc done (l ∷ []) x.0))
 behind_more done l (Err e) = refl
 
--- At line k, with the cursor at `at`, the records of `done` are read, and what is left is to be read behind them.
-pub record Progress (count stations : ℕ) (book : List ℕ) (start k at : ℕ) (done : List Line) : Type 0 where
-  pub many : length done ≡ k
-  pub rest : records_at count 0 stations book start ≡ behind done (records_at (count - k) k stations book at)
+passed_behind : (done : List Line) (r : Read) → passed (behind done r) ≡ passed r
+passed_behind done (Ok x) = refl
+passed_behind done (Err e) = refl
 
-pub begun : (count stations : ℕ) (book : List ℕ) (start : ℕ) → Progress count stations book start 0 start []
-begun count stations book start =
-    let e : count - 0 ≡ count = omega arith in
-    record { many = refl; rest = rw e (behind_none (records_at count 0 stations book start)) }
+-- The reader began as `first`, and stands as `now` before record k.
+module _ (count stations k : ℕ) (first now : Reader) where
+  abbrev pub left : Read
+  left = records_at (count - k) k stations first.book.now now.at
 
-module _ (count stations : ℕ) (book : List ℕ) (start k at : ℕ) (done : List Line) (p : Progress count stations book start k at done) where
-  next : k < count → records_at (count - k) k stations book at
-      ≡ and_then (record_at k stations book at) (λ first.
-      and_then (records_at (count - (k + 1)) (k + 1) stations book first.1) (λ rest. Ok (first.0 ∷ rest.0, rest.1)))
-  next h = let e : count - k ≡ suc (count - (k + 1)) = omega arith in ap (λ m. records_at m k stations book at) e
+  -- a loop that keeps no record
+  pub record Judges : Type 0 where
+    pub book : now.book ≡ first.book
+    pub rest : passed (records_at count 0 stations first.book.now first.at) ≡ passed left
 
-  -- one more record
-  pub more : (l : Line) (q : ℕ) → k < count → Ok l ≡ value_of (record_at k stations book at)
-      → q ≡ cursor_after fault_place (record_at k stations book at) → Progress count stations book start (k + 1) q (done ++ l ∷ [])
-  more l q h v m = record {
-    many = length_push done l ∙ ap (λ n. n + 1) p.many;
-    rest =
-        p.rest ∙ ap (behind done) (next h ∙ ok_then fault_place (record_at k stations book at) l q _ v m)
-        ∙ behind_more done l (records_at (count - (k + 1)) (k + 1) stations book q);
-  }
+  -- a loop that has filled the first k of the records `table`
+  pub record Fills (table : List Line) : Type 0 where
+    pub book : now.book ≡ first.book
+    pub rest : records_at count 0 stations first.book.now first.at ≡ behind (take k table) left
 
-  -- a fault
-  pub fault : (e : RecordFault) → k < count → Err e ≡ value_of (record_at k stations book at)
-      → records_at count 0 stations book start ≡ Err e
-  fault e h v = p.rest ∙ ap (behind done) (next h ∙ err_then (record_at k stations book at) e _ v)
+pub judges_none : (count stations : ℕ) (first : Reader) → Judges count stations 0 first first
+judges_none count stations first =
+    let e : count - 0 ≡ count = omega arith in record { book = refl; rest = rw e }
 
-  -- the end
-  pub ended : count ≤ k → records_at count 0 stations book start ≡ Ok (done, at)
-  ended h =
-      let e : count - k ≡ 0 = omega arith in
-      p.rest ∙ ap (λ m. behind done (records_at m k stations book at)) e
-      ∙ ap (λ (ls : List Line). Ok (ls, at)) (append-nil done)
+pub fills_none : (count stations : ℕ) (first : Reader) (table : List Line) → Fills count stations 0 first first table
+fills_none count stations first table =
+    let e : count - 0 ≡ count = omega arith in record { book = refl; rest = rw e (behind_none (records_at count 0 stations first.book.now first.at)) }
 
--- The same of a reader that was lent `first`, stands as `before` at line k, and as `after` behind the call for its record.
-module _ (count stations k : ℕ) (first before after : Reader) (e : before.book ≡ first.book)
-    (done : List Line) (p : Progress count stations first.book.now first.at k before.at done) (h : k < count) where
-  abbrev here : Bor (List ℕ) → Result (Line × ℕ) RecordFault
-  here b = record_at k stations b.now before.at
+module _ (count stations k : ℕ) (first before after : Reader) (h : k < count) (b : before.book ≡ first.book) where
+  next : left count stations k first before
+      ≡ and_then (record_at k stations before.book.now before.at) (λ x.
+      behind (x.0 ∷ []) (records_at (count - (k + 1)) (k + 1) stations before.book.now x.1))
+  next =
+      let e : count - k ≡ suc (count - (k + 1)) = omega arith in
+      ap (λ m. records_at m k stations first.book.now before.at) e ∙ ap (λ y. records_at (suc (count - (k + 1))) k stations y.now before.at) (sym b)
 
-  pub read_more : (l : Line) → Reads fault_place (record_at k stations) before after (Ok l)
-      → Progress count stations first.book.now first.at (k + 1) after.at (done ++ l ∷ [])
-  read_more l r =
-      more count stations first.book.now first.at k before.at done p l after.at h
-      (r.value ∙ ap (λ b. value_of (here b)) e) (r.cursor ∙ ap (λ b. cursor_after fault_place (here b)) e)
+  next_ok : (l : Line) → Reads fault_place (record_at k stations) before after (Ok l)
+      → left count stations k first before ≡ behind (l ∷ []) (left count stations (k + 1) first after)
+  next_ok l r =
+      next ∙ ok_then fault_place (record_at k stations before.book.now before.at) l after.at _ r.value r.cursor
+      ∙ ap (λ y. behind (l ∷ []) (records_at (count - (k + 1)) (k + 1) stations y.now after.at)) b
 
-  pub fault_read : (f : RecordFault) → Reads fault_place (record_at k stations) before after (Err f)
-      → records_at count 0 stations first.book.now first.at ≡ Err f
-  fault_read f r = fault count stations first.book.now first.at k before.at done p f h (r.value ∙ ap (λ b. value_of (here b)) e)
+  next_err : (f : RecordFault) → Reads fault_place (record_at k stations) before after (Err f) → left count stations k first before ≡ Err f
+  next_err f r = next ∙ err_then (record_at k stations before.book.now before.at) f _ r.value
 
-  pub read_fault : (f : RecordFault) → Reads fault_place (record_at k stations) before after (Err f)
-      → Reads fault_place (λ book q. passed (records_at count 0 stations book q)) first after (Err f)
-  read_fault f r =
-      let all = fault_read f r in
-      record {
-        value = ap (λ x. value_of (passed x)) (sym all);
-        cursor = r.cursor ∙ at_fault fault_place (here before.book) f r.value ∙ ap (λ x. cursor_after fault_place (passed x)) (sym all);
-        book = r.book ∙ e;
-      }
+pub judges_more : (count stations k : ℕ) (first before after : Reader) (r : Result Line RecordFault) → Judges count stations k first before → k < count
+    → Reads fault_place (record_at k stations) before after r → is_ok r ≡ true → Judges count stations (k + 1) first after
+judges_more count stations k first before after (Err f) j h r e = cc
+judges_more count stations k first before after (Ok l) j h r e = record {
+  book = r.book ∙ j.book;
+  rest = j.rest ∙ ap passed (next_ok count stations k first before after h j.book l r) ∙ passed_behind (l ∷ []) (left count stations (k + 1) first after);
+}
 
--- a table filled by k records gets another
-pub fill_more : (done table : List Line) (k : ℕ) (l : Line) → length done ≡ k → k < length table
-    → set (done ++ drop k table) k l ≡ (done ++ l ∷ []) ++ drop (k + 1) table
-fill_more done table k l n h =
-    ap (λ (t : List Line). set (done ++ t) k l) (drop_more table k l h)
-    ∙ set_at done _ (drop (k + 1) table) l k n
-    ∙ sym (append_assoc done (l ∷ []) (drop (k + 1) table))
+pub judges_err : (count stations k : ℕ) (first before after : Reader) (f : RecordFault) → Judges count stations k first before → k < count
+    → Reads fault_place (record_at k stations) before after (Err f)
+    → Reads fault_place (λ book q. passed (records_at count 0 stations book q)) first after (Err f)
+judges_err count stations k first before after f j h r =
+    let e : passed (records_at count 0 stations first.book.now first.at) ≡ Err f = j.rest ∙ ap passed (next_err count stations k first before after h j.book f r) in
+    let n = at_fault fault_place (record_at k stations before.book.now before.at) f r.value in
+    record { value = rw e; cursor = rw e (r.cursor ∙ n); book = r.book ∙ j.book }
+
+pub judges_all : (count stations k : ℕ) (first now : Reader) → Judges count stations k first now → count ≤ k
+    → Reads fault_place (λ book q. passed (records_at count 0 stations book q)) first now (Ok tt)
+judges_all count stations k first now j h =
+    let z : count - k ≡ 0 = omega arith in
+    let e = j.rest ∙ ap (λ n. passed (records_at n k stations first.book.now now.at)) z in
+    record { value = rw e; cursor = rw e; book = j.book }
+
+pub fills_more : (count stations k : ℕ) (first before after : Reader) (table : List Line) (l : Line)
+    → Fills count stations k first before table → k < count → k < length table → Reads fault_place (record_at k stations) before after (Ok l)
+    → Fills count stations (k + 1) first after (set table k l)
+fills_more count stations k first before after table l f h t r = record {
+  book = r.book ∙ f.book;
+  rest =
+      f.rest ∙ ap (behind (take k table)) (next_ok count stations k first before after h f.book l r)
+      ∙ behind_more (take k table) l (left count stations (k + 1) first after)
+      ∙ ap (λ ls. behind ls (left count stations (k + 1) first after)) (sym (take_more_set table k l t));
+}
+
+-- no fault is left where the reading is accepted
+pub fills_ok : (count stations k : ℕ) (first before after : Reader) (table : List Line) (r : Result Line RecordFault) (ls : List Line) (end : ℕ)
+    → Fills count stations k first before table → k < count → Reads fault_place (record_at k stations) before after r
+    → records_at count 0 stations first.book.now first.at ≡ Ok (ls, end) → is_ok r ≡ true
+fills_ok count stations k first before after table (Ok l) ls end p h r e = refl
+fills_ok count stations k first before after table (Err f) ls end p h r e =
+    let z = next_err count stations k first before after h p.book f r in cc (p.rest)
+
+pub fills_all : (count stations k : ℕ) (first now : Reader) (table : List Line) (ls : List Line) (end : ℕ) → Fills count stations k first now table
+    → count ≤ k → length table ≤ k → records_at count 0 stations first.book.now first.at ≡ Ok (ls, end) → table ≡ ls
+fills_all count stations k first now table ls end f h t e =
+    let z : count - k ≡ 0 = omega arith in
+    let w = f.rest ∙ ap (λ n. behind (take k table) (records_at n k stations first.book.now now.at)) z in
+    sym (take_all k table t) ∙ sym (append-nil (take k table)) ∙ ap (λ x. x.0) (ok_same (sym w ∙ e))
+
+pub ruleset judging_steps = (judges_none, judges_more, judges_err, judges_all)
+
+pub ruleset filling_steps = (fills_none, fills_more, fills_ok, fills_all)

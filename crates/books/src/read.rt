@@ -13,6 +13,7 @@ use crate::reader::Reader;
 use nets::Line;
 
 // Reads the records of a head's lines, and keeps none.
+#[tactic(auto, using(crate::proofs::RecordsRead::judging_steps))]
 fn judge_records(reader: &mut Reader, head: Head) -> Result<(), RecordFault>
     ensures { Reads fault_place (λ book p. passed (records_at head.lines 0 head.stations book p)) reader.old reader.new result }
 {
@@ -35,6 +36,7 @@ fn judge_book(book: &[u8], room: usize) -> Result<(Head, usize), BookFault>
 }
 
 // Fills the first of the records from a book that was judged, where no record can be at fault any more.
+#[tactic(auto, using(crate::proofs::RecordsRead::filling_steps))]
 fn fill_records(
     book: &[u8],
     head: Head,
@@ -44,18 +46,17 @@ fn fill_records(
     requires { Judged (length records.old) book.now head start }
     ensures done { result ≡ Ok tt }
     ensures table { records.new ≡ table_after (reading (length records.old) book.now) records.old }
-    ensures accepted { Accepted (length records.old) book.now head records.new }
 {
     let mut reader = Reader { book, at: start };
-    for k in 0..head.lines {
-        let record = reader.record(k, head.stations)?;
-        records[k] = record;
+    for (k, record) in records[..head.lines].iter_mut().enumerate() {
+        *record = reader.record(k, head.stations)?;
     }
     Ok(())
 }
 
 // Reads a book into the first records of the table, and leaves the others; on a refusal the whole
 // table stays as it was. Each field is judged before the next is read.
+#[tactic(auto, using(crate::proofs::BookAccepted::filled_accepted))]
 pub fn read_book(book: &[u8], records: &mut [Line]) -> Result<Head, BookFault>
     ensures answer { result ≡ head_of (reading (length records.old) book.now) }
     ensures table { records.new ≡ table_after (reading (length records.old) book.now) records.old }

@@ -1,10 +1,5 @@
-use Rattle.std.proofs.Common.{◌≡◌, List, ◌++◌, drop}
-use Rattle.nets.specs.declared.line.Line.{Line}
-use Rattle.books.proofs.RecordsRead.{Progress}
+use Rattle.books.proofs.RecordsRead.{Fills}
 use Rattle.books.proofs.read.fill_records.Given as goal
 
 abbrev pub invariant-loop-k : goal.invariant-loop-k
-invariant-loop-k l =
-    ((done : List Line) × Progress l.head.lines l.head.stations l.initial.reader.book.now l.initial.reader.at l.k l.reader.at done
-    × (l.records ≡ done ++ drop l.k l.initial.records))
-    × (l.reader.book ≡ l.initial.reader.book)
+invariant-loop-k l = Fills l.head.lines l.head.stations l.k l.initial.reader l.reader l.record-items
