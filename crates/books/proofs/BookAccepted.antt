@@ -52,7 +52,7 @@ module _ (book : List ℕ) (bytes : Bytes book) where
           sym (take-append-drop x.1 (drop p book))
           ∙ ap (λ (l : List ℕ). l ++ drop x.1 (drop p book)) (w ∙ ap encoding v ∙ sym (append-nil (encoding n)))
           ∙ ap (λ (l : List ℕ). flat_map encoding (n ∷ []) ++ l) (drop-drop x.1 p book ∙ ap (λ k. drop k book) c)
-      parts (Err d) s t = let z : ◌≡◌ {A = ℕ} 0 1 = cc in absurd (omega arith)
+      parts (Err d) s t = cc
 
   -- a field that was read has passed its test
   field_back : {F : Type 0} (wrap : NumberFault → F) (test : ℕ → Bool) (fault : ℕ → F) (p n q : ℕ)
@@ -156,7 +156,7 @@ module _ (book : List ℕ) (bytes : Bytes book) where
   end_back p t e = past (ltb p (length book)) refl e
     where
       past : (b : Bool) → ltb p (length book) ≡ b → cond b (Err (BytesLeft p)) (Ok tt) ≡ Ok t → drop p book ≡ []
-      past true s q = let z : ◌≡◌ {A = ℕ} 0 1 = cc in absurd (omega arith)
+      past true s q = cc
       past false s q = drop_all p book (ltb-false p (length book) s)
 
   -- a run of bytes that is accepted means a net within the limits, and is the book of that net

@@ -1,5 +1,5 @@
 -- The book of a net reads back as that net. Assumes nothing.
-use Rattle.std.proofs.Common.{◌≡◌, ℕ, zero, suc, ◌+◌, ◌/◌, ◌%◌, ◌^◌, ◌<◌, ◌≤◌, Bool, true, false, cond, ◌&&◌, eqb, ltb, leb, List, [], ◌∷◌, ◌++◌, length, take, drop, Ok, Err, Result, sym, refl, ap, ◌∙◌, arith, length-drop}
+use Rattle.std.proofs.Common.{◌≡◌, ℕ, zero, suc, ◌+◌, ◌/◌, ◌%◌, ◌^◌, ◌<◌, ◌≤◌, Bool, true, false, cond, ◌&&◌, eqb, ltb, leb, List, [], ◌∷◌, ◌++◌, length, take, drop, Ok, Err, sym, refl, ap, ◌∙◌, arith, length-drop}
 use Rattle.std.specs.List.{flat_map, AllByRecursion}
 use Rattle.std.proofs.ByRecursion.{All-append}
 use Rattle.std.proofs.lemmas.List.{drop-drop, drop_at, take_at}
@@ -12,10 +12,11 @@ use Rattle.books.specs.declared.fault.RecordError.TheVariants.{Number, Station, 
 use Rattle.books.specs.Book.{edition_at, stations_at, lines_at, head_at, end_at, closed_at, body_at, reading, book_numbers, book_of}
 use Rattle.books.specs.Number.{number, groups, encoding}
 use Rattle.books.specs.OneBook.{Bytes, ReadsAs, OneBook}
-use Rattle.books.specs.Reading.{and_then, inside, placed, number_at, field_at}
+use Rattle.books.specs.Reading.{inside, placed, number_at, field_at}
 use Rattle.books.specs.Records.{station_at, limited_at, ends_at, terms_at, fields_at, in_line, record_at, records_at, line_numbers}
 use Rattle.books.proofs.BookAccepted.{is_book}
 use Rattle.books.proofs.NumberTrips.{read_of_written}
+use Rattle.books.proofs.Readings.{then_is}
 use Rattle.books.proofs.NumberWritten.{limit}
 
 -- From place p on the book holds just these numbers.
@@ -25,9 +26,6 @@ HoldsToEnd book p ns = drop p book ≡ flat_map encoding ns
 -- the place behind the number n
 abbrev next : ℕ → ℕ → ℕ
 next p n = p + length (encoding n)
-
-then_is : {A B F : Type 0} (r : Result A F) (f : A → Result B F) (x : A) (y : Result B F) → r ≡ Ok x → f x ≡ y → and_then r f ≡ y
-then_is r f x y e g = ap (λ s. and_then s f) e ∙ g
 
 bit_open : (b : Bool) → eqb (cond b 1 0) 1 ≡ b
 bit_open true = refl

@@ -24,6 +24,7 @@ fn judge_records(reader: &mut Reader, head: Head) -> Result<(), RecordFault>
 }
 
 // Judges a book for a table with room for so many records: its head, and the place of its first record.
+#[tactic(auto, using(crate::proofs::BookRead::judged), unfolding(crate::specs::Book::reading))]
 fn judge_book(book: &[u8], room: usize) -> Result<(Head, usize), BookFault>
     ensures { MatchResult result (λ x. Judged room book.now x.0 x.1) (λ e. reading room book.now ≡ Err e) }
 {
