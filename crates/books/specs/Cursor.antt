@@ -1,6 +1,9 @@
 -- What a method of the reader answers, and where it leaves the cursor. Assumes nothing.
-use Rattle.std.specs.Prelude.{◌≡◌, ℕ, List, Ok, Err, Result}
+use Rattle.std.specs.Prelude.{◌≡◌, ℕ, Bool, cond, List, Ok, Err, Result, MatchResult}
+use Rattle.std.specs.Result.{IsErrAnd}
+use Rattle.books.specs.declared.fault.NumberFault.{NumberFault}
 use Rattle.books.specs.declared.reader.Reader.{Reader}
+use Rattle.books.specs.Reading.{number_at}
 
 -- The answer of a reading, without the place.
 abbrev pub value_of : {A F : Type 0} → Result (A × ℕ) F → Result A F
@@ -18,3 +21,12 @@ pub record Reads {A F : Type 0} (place : F → ℕ) (reading : List ℕ → ℕ 
   pub value : r ≡ value_of (reading before.book.now before.at)
   pub cursor : after.at ≡ cursor_after place (reading before.book.now before.at)
   pub book : after.book ≡ before.book
+
+-- The number at the cursor is taken where it passes, and otherwise the answer is the fault, or what becomes of the number's own
+-- fault, and the cursor stays.
+pub record Takes {F : Type 0} (Becomes : NumberFault → F → Type 0) (Tests : ℕ → Bool → Type 0) (fault : F) (before after : Reader) (r : Result ℕ F) : Type 0 where
+  pub book : after.book ≡ before.book
+  pub answer :
+      MatchResult (number_at before.book.now before.at)
+      (λ x. (b : Bool) × Tests x.0 b × (r ≡ cond b (Ok x.0) (Err fault)) × (after.at ≡ cond b x.1 before.at))
+      (λ e. IsErrAnd r (Becomes e) × (after.at ≡ before.at))

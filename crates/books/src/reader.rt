@@ -3,7 +3,7 @@
 ghost use Rattle.std.specs.Prelude.{◌≡◌, ◌+◌, drop};
 ghost use Rattle.books.specs.Faults.{record_place, fault_place, place_of};
 ghost use Rattle.books.specs.Reading.{number_at};
-ghost use Rattle.books.specs.Cursor.{Reads};
+ghost use Rattle.books.specs.Cursor.{Reads, Takes};
 ghost use Rattle.books.specs.Book.{edition_at, stations_at, lines_at, head_at, end_at};
 ghost use Rattle.books.specs.Records.{station_at, limited_at, ends_at, terms_at, fields_at, record_at};
 
@@ -52,41 +52,51 @@ impl<'a> Reader<'a> {
             .map_err(|error| NumberFault { place, error })
     }
 
+    // Takes the number at the cursor if it fits, and otherwise answers the fault and leaves the cursor at it.
+    fn number<E: From<NumberFault> + Copy, F: FnOnce(u32) -> bool>(
+        &mut self,
+        fits: F,
+        fault: E,
+    ) -> Result<u32, E>
+        requires { F.IsAlwaysCallable fits }
+        ensures { Takes E.From.from_gives (F.post fits) fault self.old self.new result }
+    {
+        let (number, next) = self.peek()?;
+        if !fits(number) {
+            return Err(fault);
+        }
+        self.at = next;
+        Ok(number)
+    }
+
     fn edition(&mut self) -> Result<u32, BookFault>
         ensures { Reads place_of edition_at self.old self.new result }
     {
-        let (edition, next) = self.peek()?;
-        if edition != EDITION {
-            return Err(BookFault::Edition { place: self.at });
-        }
-        self.at = next;
-        Ok(edition)
+        self.number(|n| n == EDITION, BookFault::Edition { place: self.at })
     }
 
     fn stations(&mut self) -> Result<usize, BookFault>
         ensures { Reads place_of stations_at self.old self.new result }
     {
-        let (stations, next) = self.peek()?;
-        let stations = stations as usize;
-        if stations == 0 || stations > MAX_STATIONS {
-            return Err(BookFault::HeadLimit { place: self.at });
-        }
-        self.at = next;
-        Ok(stations)
+        let stations = self.number(
+            |n| n > 0 && n as usize <= MAX_STATIONS,
+            BookFault::HeadLimit { place: self.at },
+        )?;
+        Ok(stations as usize)
     }
 
     fn lines(&mut self, room: usize) -> Result<usize, BookFault>
         ensures { Reads place_of (lines_at room) self.old self.new result }
     {
-        let (lines, next) = self.peek()?;
-        let lines = lines as usize;
-        if lines > MAX_LINES {
-            return Err(BookFault::HeadLimit { place: self.at });
-        }
+        let place = self.at;
+        let lines = self.number(
+            |n| n as usize <= MAX_LINES,
+            BookFault::HeadLimit { place },
+        )? as usize;
         if lines > room {
-            return Err(BookFault::TableShort { place: self.at });
+            self.at = place;
+            return Err(BookFault::TableShort { place });
         }
-        self.at = next;
         Ok(lines)
     }
 
@@ -113,23 +123,16 @@ impl<'a> Reader<'a> {
     fn station(&mut self, stations: usize) -> Result<u32, RecordError>
         ensures { Reads record_place (station_at stations) self.old self.new result }
     {
-        let (station, next) = self.peek()?;
-        if station as usize >= stations {
-            return Err(RecordError::Station { place: self.at });
-        }
-        self.at = next;
-        Ok(station)
+        self.number(
+            |n| (n as usize) < stations,
+            RecordError::Station { place: self.at },
+        )
     }
 
     fn limited(&mut self, most: u32) -> Result<u32, RecordError>
         ensures { Reads record_place (limited_at most) self.old self.new result }
     {
-        let (value, next) = self.peek()?;
-        if value > most {
-            return Err(RecordError::Limit { place: self.at });
-        }
-        self.at = next;
-        Ok(value)
+        self.number(|n| n <= most, RecordError::Limit { place: self.at })
     }
 
     // From and to.
