@@ -18,7 +18,7 @@ use Rattle.books.specs.Number.{number, encoding}
 use Rattle.books.specs.OneBook.{Bytes, Accepted}
 use Rattle.books.specs.Reading.{inside, placed, number_at, field_at}
 use Rattle.books.specs.Judging.{Judged}
-use Rattle.books.specs.Records.{station_at, limited_at, ends_at, terms_at, fields_at, in_line, record_at, records_at, line_numbers}
+use Rattle.books.specs.Records.{station_at, limited_at, ends_at, open_at, terms_at, fields_at, in_line, record_at, records_at, line_numbers}
 use Rattle.books.proofs.BookRead.{count_read}
 use Rattle.books.proofs.Joining.{joined_append}
 use Rattle.books.proofs.NumberTrips.{written_of_read}
@@ -78,22 +78,27 @@ module _ (book : List ℕ) (bytes : Bytes book) where
         ltb-true to.0 stations b.1,
       )))
 
-  terms_back : (p : ℕ) (x : (ℕ × ℕ × ℕ) × ℕ) → terms_at book p ≡ Ok x
-      → Holds book p (x.0.0 ∷ x.0.1 ∷ x.0.2 ∷ []) x.1 × (x.0.0 ≤ max_fee) × (x.0.1 ≤ max_loss) × (x.0.2 ≤ 1)
+  open_back : (p : ℕ) (x : Bool × ℕ) → open_at book p ≡ Ok x → Holds book p (cond x.0 1 0 ∷ []) x.1
+  open_back p x e =
+      then_ok (limited_at 1 book p) _ x e (λ n f g.
+      let a = field_back Number (λ n. leb n 1) Limit p n.0 n.1 f in
+      let P : Bool × ℕ → Type 0 = λ y. Holds book p (cond y.0 1 0 ∷ []) y.1 in
+      subst P (ok_same g) (a.0 ∙ ap (λ m. flat_map encoding (m ∷ []) ++ drop n.1 book) (bit_is n.0 (leb-true n.0 1 a.1))))
+
+  terms_back : (p : ℕ) (x : (ℕ × ℕ × Bool) × ℕ) → terms_at book p ≡ Ok x
+      → Holds book p (x.0.0 ∷ x.0.1 ∷ cond x.0.2 1 0 ∷ []) x.1 × (x.0.0 ≤ max_fee) × (x.0.1 ≤ max_loss)
   terms_back p x e =
       then_ok (limited_at max_fee book p) _ x e (λ fee f g.
       then_ok (limited_at max_loss book fee.1) _ x g (λ loss l m.
-      then_ok (limited_at 1 book loss.1) _ x m (λ standing s t.
+      then_ok (open_at book loss.1) _ x m (λ standing s t.
       let a = field_back Number (λ n. leb n max_fee) Limit p fee.0 fee.1 f in
       let b = field_back Number (λ n. leb n max_loss) Limit fee.1 loss.0 loss.1 l in
-      let c = field_back Number (λ n. leb n 1) Limit loss.1 standing.0 standing.1 s in
-      let P : (ℕ × ℕ × ℕ) × ℕ → Type 0 = λ y. Holds book p (y.0.0 ∷ y.0.1 ∷ y.0.2 ∷ []) y.1 × (y.0.0 ≤ max_fee) × (y.0.1 ≤ max_loss) × (y.0.2 ≤ 1) in
+      let P : (ℕ × ℕ × Bool) × ℕ → Type 0 = λ y. Holds book p (y.0.0 ∷ y.0.1 ∷ cond y.0.2 1 0 ∷ []) y.1 × (y.0.0 ≤ max_fee) × (y.0.1 ≤ max_loss) in
       subst P (ok_same t) (
-        holds_more book p fee.1 standing.1 (fee.0 ∷ []) (loss.0 ∷ standing.0 ∷ []) a.0
-            (holds_more book fee.1 loss.1 standing.1 (loss.0 ∷ []) (standing.0 ∷ []) b.0 c.0),
+        holds_more book p fee.1 standing.1 (fee.0 ∷ []) (loss.0 ∷ cond standing.0 1 0 ∷ []) a.0
+            (holds_more book fee.1 loss.1 standing.1 (loss.0 ∷ []) (cond standing.0 1 0 ∷ []) b.0 (open_back loss.1 standing s)),
         leb-true fee.0 max_fee a.1,
         leb-true loss.0 max_loss b.1,
-        leb-true standing.0 1 c.1,
       ))))
 
   fields_back : (stations p : ℕ) (x : Line × ℕ) → fields_at stations book p ≡ Ok x → Holds book p (line_numbers x.0) x.1 × LineLimits stations x.0
@@ -105,8 +110,7 @@ module _ (book : List ℕ) (bytes : Bytes book) where
       let t = terms_back ends.1 terms v in
       let P : Line × ℕ → Type 0 = λ y. Holds book p (line_numbers y.0) y.1 × LineLimits stations y.0 in
       subst P (ok_same w) (
-        holds_more book p ends.1 terms.1 (ends.0.0 ∷ ends.0.1 ∷ []) (terms.0.0 ∷ terms.0.1 ∷ cond (eqb terms.0.2 1) 1 0 ∷ []) f.0
-            (t.0 ∙ ap (λ n. flat_map encoding (terms.0.0 ∷ terms.0.1 ∷ n ∷ []) ++ drop terms.1 book) (bit_is terms.0.2 t.3)),
+        holds_more book p ends.1 terms.1 (ends.0.0 ∷ ends.0.1 ∷ []) (terms.0.0 ∷ terms.0.1 ∷ cond terms.0.2 1 0 ∷ []) f.0 t.0,
         record { from = f.1; to = f.2; fee = t.1; loss = t.2 },
       )))
 

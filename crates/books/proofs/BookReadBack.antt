@@ -13,7 +13,7 @@ use Rattle.books.specs.Book.{edition_at, stations_at, lines_at, head_at, end_at,
 use Rattle.books.specs.Number.{number, groups, encoding}
 use Rattle.books.specs.OneBook.{Bytes, ReadsAs, OneBook}
 use Rattle.books.specs.Reading.{inside, placed, number_at, field_at}
-use Rattle.books.specs.Records.{station_at, limited_at, ends_at, terms_at, fields_at, in_line, record_at, records_at, line_numbers}
+use Rattle.books.specs.Records.{station_at, limited_at, ends_at, open_at, terms_at, fields_at, in_line, record_at, records_at, line_numbers}
 use Rattle.books.proofs.BookAccepted.{is_book}
 use Rattle.books.proofs.NumberTrips.{read_of_written}
 use Rattle.books.proofs.Readings.{then_is}
@@ -65,12 +65,13 @@ module _ (book : List ℕ) where
       let e = field_forth Number (λ n. leb n 1) Limit p4 bit ns d.1 (omega (arith, bit_most l.«open»)) (le-leb bit 1 (bit_most l.«open»)) in
       let ends : ends_at stations book p ≡ Ok ((l.from, l.to), p2) =
       then_is (station_at stations book p) _ (l.from, p1) _ a.0 (then_is (station_at stations book p1) _ (l.to, p2) _ b.0 refl) in
-      let terms : terms_at book p2 ≡ Ok ((l.fee, l.loss, bit), p5) =
+      let standing : open_at book p4 ≡ Ok (l.«open», p5) =
+      then_is (limited_at 1 book p4) _ (bit, p5) _ e.0 (ap (λ (b : Bool). Ok (b, p5)) (bit_open l.«open»)) in
+      let terms : terms_at book p2 ≡ Ok ((l.fee, l.loss, l.«open»), p5) =
       then_is (limited_at max_fee book p2) _ (l.fee, p3) _ c.0
-      (then_is (limited_at max_loss book p3) _ (l.loss, p4) _ d.0 (then_is (limited_at 1 book p4) _ (bit, p5) _ e.0 refl)) in
+      (then_is (limited_at max_loss book p3) _ (l.loss, p4) _ d.0 (then_is (open_at book p4) _ (l.«open», p5) _ standing refl)) in
       let fields : fields_at stations book p ≡ Ok (l, p5) =
-      then_is (ends_at stations book p) _ ((l.from, l.to), p2) _ ends (then_is (terms_at book p2) _ ((l.fee, l.loss, bit), p5) _ terms
-      (ap (λ (b : Bool). Ok (record { from = l.from; to = l.to; fee = l.fee; loss = l.loss; «open» = b }, p5)) (bit_open l.«open»))) in
+      then_is (ends_at stations book p) _ ((l.from, l.to), p2) _ ends (then_is (terms_at book p2) _ ((l.fee, l.loss, l.«open»), p5) _ terms refl) in
       (p5, ap (inside (in_line k)) fields, e.1)
 
   records_forth : (stations : ℕ) (ls : List Line) (k p : ℕ) → stations ≤ max_stations → AllByRecursion (LineLimits stations) ls → HoldsToEnd book p (flat_map line_numbers ls)

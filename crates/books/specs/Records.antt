@@ -1,5 +1,5 @@
 -- A line's record in a book: its five numbers, in the order in which they are read and judged. Assumes nothing.
-use Rattle.std.specs.Prelude.{ℕ, zero, suc, ◌+◌, cond, List, [], ◌∷◌, Ok, Result, ◌==◌, nat_le, nat_lt}
+use Rattle.std.specs.Prelude.{ℕ, zero, suc, ◌+◌, Bool, cond, List, [], ◌∷◌, Ok, Result, ◌==◌, nat_le, nat_lt}
 use Rattle.std.specs.List.{flat_map}
 use Rattle.nets.specs.declared.line.Line.{Line}
 use Rattle.nets.specs.Model.{max_fee, max_loss}
@@ -24,12 +24,16 @@ ends_at stations book p =
     and_then (station_at stations book from.1) (λ to.
     Ok ((from.0, to.0), to.1)))
 
--- The other three numbers of a record: fee, loss, and 1 for open or 0 for shut.
-abbrev pub terms_at : List ℕ → ℕ → Result ((ℕ × ℕ × ℕ) × ℕ) RecordError
+-- Whether the line is open: 1 for open or 0 for shut.
+abbrev pub open_at : List ℕ → ℕ → Result (Bool × ℕ) RecordError
+open_at book p = and_then (limited_at 1 book p) (λ n. Ok (n.0 == 1, n.1))
+
+-- The other three numbers of a record: fee, loss, and whether it is open.
+abbrev pub terms_at : List ℕ → ℕ → Result ((ℕ × ℕ × Bool) × ℕ) RecordError
 terms_at book p =
     and_then (limited_at max_fee book p) (λ fee.
     and_then (limited_at max_loss book fee.1) (λ loss.
-    and_then (limited_at 1 book loss.1) (λ standing.
+    and_then (open_at book loss.1) (λ standing.
     Ok ((fee.0, loss.0, standing.0), standing.1))))
 
 -- The record at place p: from, to, fee, loss, and 1 for open or 0 for shut.
@@ -37,7 +41,7 @@ unfoldable pub fields_at : (stations : ℕ) → List ℕ → ℕ → Result (Lin
 fields_at stations book p =
     and_then (ends_at stations book p) (λ ends.
     and_then (terms_at book ends.1) (λ terms.
-    Ok (record { from = ends.0.0; to = ends.0.1; fee = terms.0.0; loss = terms.0.1; «open» = (terms.0.2 == 1) }, terms.1)))
+    Ok (record { from = ends.0.0; to = ends.0.1; fee = terms.0.0; loss = terms.0.1; «open» = terms.0.2 }, terms.1)))
 
 -- A record's fault, with the line being read.
 abbrev pub in_line : ℕ → RecordError → RecordFault

@@ -5,7 +5,7 @@ ghost use Rattle.books.specs.Faults.{record_place, fault_place, place_of};
 ghost use Rattle.books.specs.Reading.{number_at};
 ghost use Rattle.books.specs.Cursor.{Reads, Takes};
 ghost use Rattle.books.specs.Book.{edition_at, stations_at, lines_at, head_at, end_at};
-ghost use Rattle.books.specs.Records.{station_at, limited_at, ends_at, terms_at, fields_at, record_at};
+ghost use Rattle.books.specs.Records.{station_at, limited_at, ends_at, open_at, terms_at, fields_at, record_at};
 
 use crate::fault::{BookFault, NumberFault, RecordError, RecordFault};
 use crate::head::Head;
@@ -32,6 +32,7 @@ impl<'a> Reader<'a> {
     }
 
     // What is left of the book.
+    #[tactic(auto, using(std::proofs::lemmas::List::drop_all, std::proofs::lemmas::List::take_rest))]
     fn rest(&self) -> &'a [u8]
         ensures { result.now ≡ drop self.now.at self.now.book.now }
     {
@@ -101,6 +102,7 @@ impl<'a> Reader<'a> {
     }
 
     // The head, for a table with room for so many records.
+    #[tactic(auto, unfolding(crate::specs::Book::head_at))]
     pub fn head(&mut self, room: usize) -> Result<Head, BookFault>
         ensures { Reads place_of (head_at room) self.old self.new result }
     {
@@ -144,16 +146,24 @@ impl<'a> Reader<'a> {
         Ok((from, to))
     }
 
-    // Fee, loss, and 1 for open or 0 for shut.
-    fn terms(&mut self) -> Result<(u32, u32, u32), RecordError>
+    // Whether the line is open.
+    fn open(&mut self) -> Result<bool, RecordError>
+        ensures { Reads record_place open_at self.old self.new result }
+    {
+        Ok(self.limited(1)? == 1)
+    }
+
+    // Fee, loss, and whether the line is open.
+    fn terms(&mut self) -> Result<(u32, u32, bool), RecordError>
         ensures { Reads record_place terms_at self.old self.new result }
     {
         let fee = self.limited(MAX_FEE)?;
         let loss = self.limited(MAX_LOSS)?;
-        let open = self.limited(1)?;
+        let open = self.open()?;
         Ok((fee, loss, open))
     }
 
+    #[tactic(auto, unfolding(crate::specs::Records::fields_at))]
     fn fields(&mut self, stations: usize) -> Result<Line, RecordError>
         ensures { Reads record_place (fields_at stations) self.old self.new result }
     {
@@ -164,7 +174,7 @@ impl<'a> Reader<'a> {
             to,
             fee,
             loss,
-            open: open == 1,
+            open,
         })
     }
 
