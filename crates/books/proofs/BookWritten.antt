@@ -9,7 +9,10 @@ use Rattle.books.specs.Book.{head_numbers, book_of}
 use Rattle.books.specs.Number.{encoding}
 use Rattle.books.specs.Records.{line_numbers, line_bytes}
 use Rattle.books.proofs.Joining.{joined_append, length_most}
-use Rattle.books.proofs.NumberWritten.{encoding_most, paste_both}
+use Rattle.books.proofs.NumberWritten.{encoding_most}
+use Rattle.books.proofs.Writing.{Left, left_none, left_room, left_more}
+use Rattle.books.specs.declared.writer.Writer.{Writer}
+use Rattle.books.specs.Writing.{HasRoom, Writes}
 
 pub line_most : (l : Line) → length (line_bytes l) ≤ 25
 unfolding line_bytes
@@ -37,18 +40,29 @@ module _ (m : Model) (s : Sound m) where
   pub book_length : length (book_of m) ≡ length (flat_map encoding (head_numbers m)) + length (flat_map line_bytes m.lines)
   book_length = ap length (book_parts m) ∙ length-append (flat_map encoding (head_numbers m)) (flat_map line_bytes m.lines)
 
--- The head is written to the front of `out`, which is then `mid`, and the records from place `at` on.
-module _ (m : Model) (out : List ℕ) (room : length (book_of m) ≤ length out) (at : ℕ) (place : at ≡ 0 + length (flat_map encoding (head_numbers m))) (s : Sound m) where
-  pub lines_room : (mid : List ℕ) → length mid ≡ length out → at + length (flat_map line_bytes m.lines) ≤ length mid
-  lines_room mid e = omega (arith, book_length m s)
+-- The head is written, and behind it the records.
+module _ (m : Model) (ns : List ℕ) (e : ns ≡ head_numbers m) (before : Writer) (r : HasRoom (book_of m) before) where
+  left_book : Left (book_of m) (book_of m) before before
+  left_book = left_none (book_of m) before r
 
-  pub both_written : (mid end : List ℕ) → mid ≡ paste out 0 (flat_map encoding (head_numbers m)) (length (flat_map encoding (head_numbers m)))
-      → end ≡ paste mid at (flat_map line_bytes m.lines) (length (flat_map line_bytes m.lines)) → end ≡ book_of m ++ drop (length (book_of m)) out
-  both_written mid end a b =
-      let hs = flat_map encoding (head_numbers m) in
-      let ls = flat_map line_bytes m.lines in
-      let r : 0 + length (hs ++ ls) ≤ length out = omega (arith, length-append hs ls, book_length m s) in
-      paste_both out mid end hs ls 0 at r place a b
-      ∙ ap (λ (t : List ℕ). paste out 0 t (length t)) (sym (book_parts m))
-      ∙ paste_all out 0 (book_of m) (length (book_of m)) refl
-      ∙ ap (λ (k : ℕ). book_of m ++ drop k out) (zero-add (length (book_of m)))
+  parts : book_of m ≡ flat_map encoding ns ++ flat_map line_bytes m.lines
+  parts = rw e (book_parts m)
+
+  pub head_room : HasRoom (flat_map encoding ns) before
+  head_room = left_room (book_of m) (book_of m) (flat_map encoding ns) (flat_map line_bytes m.lines) before before left_book parts
+
+  module _ (now : Writer) (w : Writes (flat_map encoding ns) before now) where
+    left_lines : Left (book_of m) (flat_map line_bytes m.lines) before now
+    left_lines = left_more (book_of m) (book_of m) (flat_map encoding ns) (flat_map line_bytes m.lines) before before now left_book parts w
+
+    pub lines_room : HasRoom (flat_map line_bytes m.lines) now
+    lines_room = left_lines.room
+
+    pub book_written : (after : Writer) → Writes (flat_map line_bytes m.lines) now after → Writes (book_of m) before after
+    book_written after v = left_lines.then_all after v
+
+pub ruleset book_steps = (head_room, lines_room, book_written)
+
+-- what is written from the beginning of an output on
+pub front_written : (bytes out : List ℕ) → paste out 0 bytes (length bytes) ≡ bytes ++ drop (length bytes) out
+front_written bytes out = paste_all out 0 bytes (length bytes) refl ∙ ap (λ (k : ℕ). bytes ++ drop k out) (zero-add (length bytes))

@@ -8,3 +8,4 @@ pub mod BookWritten
 pub mod NumberTrips
 pub mod BookAccepted
 pub mod BookReadBack
+pub mod Writing

@@ -90,3 +90,15 @@ groups_most (suc m) n = let r = groups_most m (n / 128) in grind (arith, nat_tes
 pub encoding_most : (n : ℕ) → length (encoding n) ≤ 5
 unfolding encoding
 encoding_most n = groups_most 4 n
+
+-- one group of a short number, and that of a longer one before the others
+pub encoding_last : (n : ℕ) → n < 128 → encoding n ≡ n ∷ []
+unfolding encoding
+encoding_last n h = grind (arith, nat_tests)
+
+fewer : (n : ℕ) → n < 2 ^ 28 → groups 4 n ≡ groups 3 n
+fewer n h = grind (arith, nat_tests)
+
+pub encoding_more : (n : ℕ) → n < 2 ^ 32 → 128 ≤ n → encoding n ≡ (n % 128 + 128) ∷ encoding (n / 128)
+unfolding encoding
+encoding_more n h q = let e = fewer (n / 128) (omega arith) in rw e (grind (arith, nat_tests))

@@ -3,6 +3,7 @@ pub mod Faults
 pub mod Reading
 pub mod Records
 pub mod Cursor
+pub mod Writing
 pub mod Book
 pub mod Judging
 pub mod OneBook

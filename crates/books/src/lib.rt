@@ -7,6 +7,7 @@ mod number;
 mod read;
 mod reader;
 mod write;
+mod writer;
 
 pub use fault::{BookFault, Layer, NumberFault, RecordError, RecordFault};
 pub use head::Head;

@@ -1,6 +1,5 @@
 // Numbers in groups of seven bits, lowest first; every byte but the last has its top bit set.
-ghost use Rattle.std.specs.Prelude.{◌≡◌, ◌+◌, ◌≤◌, length};
-ghost use Rattle.std.proofs.Math.Seq.{paste};
+ghost use Rattle.std.specs.Prelude.{◌≡◌, length};
 ghost use Rattle.books.specs.Number.{number, encoding};
 
 // What can be wrong with the bytes of a number.
@@ -13,8 +12,6 @@ pub enum NumberError {
     // the number has several bytes and the last is 0, so a shorter form exists
     Padded,
 }
-
-const MAX_BYTES: usize = 5;
 
 const MAX_FIFTH_BYTE: u8 = 15;
 
@@ -52,22 +49,4 @@ pub(crate) fn number_length(n: u32) -> usize
         0x20_0000..=0xfff_ffff => 4,
         _ => 5,
     }
-}
-
-// Writes a number from place `at` on, where it has room, and answers the place after it.
-pub(crate) fn write_number(out: &mut [u8], at: usize, n: u32) -> usize
-    requires { at + length (encoding n) ≤ length out.old }
-    ensures place { result ≡ at + length (encoding n) }
-    ensures out { out.new ≡ paste out.old at (encoding n) (length (encoding n)) }
-{
-    let mut left = n;
-    for k in 0..MAX_BYTES {
-        if left < 128 {
-            out[at + k] = left as u8;
-            return at + k + 1;
-        }
-        out[at + k] = (left % 128) as u8 + 128;
-        left /= 128;
-    }
-    unreachable()
 }

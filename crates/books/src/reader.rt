@@ -36,10 +36,7 @@ impl<'a> Reader<'a> {
     fn rest(&self) -> &'a [u8]
         ensures { result.now ≡ drop self.now.at self.now.book.now }
     {
-        if self.at >= self.book.len() {
-            return &[];
-        }
-        &self.book[self.at..]
+        self.book.get(self.at..).unwrap_or(&[])
     }
 
     // The number at the cursor with the place after it; the cursor stays.

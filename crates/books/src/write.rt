@@ -1,17 +1,17 @@
 // The book of a net, written to the front of an output.
 ghost use Rattle.std.specs.Prelude.{◌≡◌, ◌+◌, ◌≤◌, ◌++◌, length, take, drop, IfOk};
-ghost use Rattle.std.proofs.Math.Seq.{paste};
 ghost use Rattle.std.specs.List.{flat_map};
 ghost use Rattle.books.specs.Book.{head_numbers, book_of, length_answer, output_after};
 ghost use Rattle.books.specs.Number.{encoding};
 ghost use Rattle.books.specs.OneBook.{ReadsAs, OneBook};
 ghost use Rattle.books.specs.Records.{line_numbers, line_bytes};
 
-use crate::number::{number_length, write_number};
+use crate::number::number_length;
 use crate::reader::EDITION;
+use crate::writer::Writer;
 use nets::{Line, Net, Refusal};
 
-fn line_numbers(line: &Line) -> [u32; 5]
+pub(crate) fn line_numbers(line: &Line) -> [u32; 5]
     ensures { result ≡ line_numbers line.now }
 {
     [
@@ -23,7 +23,7 @@ fn line_numbers(line: &Line) -> [u32; 5]
     ]
 }
 
-fn head_numbers<N: Net>(net: &N) -> [u32; 3]
+pub(crate) fn head_numbers<N: Net>(net: &N) -> [u32; 3]
     ensures { result ≡ head_numbers (N.Net.meant net.now) }
 {
     [EDITION, net.stations() as u32, net.line_count() as u32]
@@ -41,31 +41,10 @@ fn numbers_length(numbers: &[u32]) -> usize
     length
 }
 
-// Writes numbers one behind another from place `at` on, where they have room, and answers the place after them.
-fn write_numbers(out: &mut [u8], at: usize, numbers: &[u32]) -> usize
-    requires { at + length (flat_map encoding numbers.now) ≤ length out.old }
-    ensures place { result ≡ at + length (flat_map encoding numbers.now) }
-    ensures out { out.new ≡ paste out.old at (flat_map encoding numbers.now) (length (flat_map encoding numbers.now)) }
-{
-    let mut place = at;
-    for n in numbers {
-        place = write_number(out, place, *n);
-    }
-    place
-}
-
 fn line_length(line: &Line) -> usize
     ensures { result ≡ length (line_bytes line.now) }
 {
     numbers_length(&line_numbers(line))
-}
-
-fn write_line(out: &mut [u8], at: usize, line: &Line) -> usize
-    requires { at + length (line_bytes line.now) ≤ length out.old }
-    ensures place { result ≡ at + length (line_bytes line.now) }
-    ensures out { out.new ≡ paste out.old at (line_bytes line.now) (length (line_bytes line.now)) }
-{
-    write_numbers(out, at, &line_numbers(line))
 }
 
 // How many bytes the records of a net's lines take.
@@ -81,19 +60,6 @@ fn lines_length<N: Net>(net: &N) -> usize
     length
 }
 
-// Writes the records of a net's lines from place `at` on, where they have room.
-fn write_lines<N: Net>(net: &N, out: &mut [u8], at: usize)
-    requires { at + length (flat_map line_bytes (N.Net.meant net.now).lines) ≤ length out.old }
-    ensures { out.new ≡ paste out.old at (flat_map line_bytes (N.Net.meant net.now).lines) (length (flat_map line_bytes (N.Net.meant net.now).lines)) }
-{
-    let mut place = at;
-    let mut k = 0;
-    while let Some(line) = net.line(k) {
-        place = write_line(out, place, &line);
-        k += 1;
-    }
-}
-
 // How many bytes the book of a net takes.
 fn book_length<N: Net>(net: &N) -> usize
     ensures length { result ≡ length (book_of (N.Net.meant net.now)) }
@@ -102,17 +68,8 @@ fn book_length<N: Net>(net: &N) -> usize
     numbers_length(&head_numbers(net)) + lines_length(net)
 }
 
-// Writes the book of a net to the front of an output with room for it.
-fn write_parts<N: Net>(net: &N, out: &mut [u8])
-    requires { length (book_of (N.Net.meant net.now)) ≤ length out.old }
-    ensures output { out.new ≡ book_of (N.Net.meant net.now) ++ drop (length (book_of (N.Net.meant net.now))) out.old }
-    ensures back { ReadsAs (take (length (book_of (N.Net.meant net.now))) out.new) (N.Net.meant net.now) }
-{
-    let at = write_numbers(out, 0, &head_numbers(net));
-    write_lines(net, out, at);
-}
-
 // Writes the book of a net to the front of the output, leaves the bytes beyond it, and answers its length.
+#[tactic(auto, using(crate::proofs::BookReadBack::written_back, crate::proofs::BookWritten::front_written))]
 pub fn write_book<N: Net>(net: &N, out: &mut [u8]) -> Result<usize, Refusal>
     ensures answer { result ≡ length_answer (book_of (N.Net.meant net.now)) out.old }
     ensures output { out.new ≡ output_after (book_of (N.Net.meant net.now)) out.old }
@@ -123,6 +80,7 @@ pub fn write_book<N: Net>(net: &N, out: &mut [u8]) -> Result<usize, Refusal>
     if length > out.len() {
         return Err(Refusal::OutputShort);
     }
-    write_parts(net, out);
+    let mut writer = Writer { out, at: 0 };
+    writer.book(net);
     Ok(length)
 }
