@@ -9,7 +9,7 @@ ghost use Rattle.books.specs.Records.{line_numbers, line_bytes};
 use crate::number::number_length;
 use crate::reader::EDITION;
 use crate::writer::Writer;
-use nets::{Line, Net, Refusal};
+use nets::{Line, Lines, Net, Refusal};
 
 pub(crate) fn line_numbers(line: &Line) -> [u32; 5]
     ensures { result ≡ line_numbers line.now }
@@ -34,11 +34,7 @@ fn numbers_length(numbers: &[u32]) -> usize
     requires { length numbers.now ≤ 5 }
     ensures { result ≡ length (flat_map encoding numbers.now) }
 {
-    let mut length = 0;
-    for n in numbers {
-        length += number_length(*n);
-    }
-    length
+    numbers.iter().map(|n| number_length(*n)).sum()
 }
 
 fn line_length(line: &Line) -> usize
@@ -51,13 +47,7 @@ fn line_length(line: &Line) -> usize
 fn lines_length<N: Net>(net: &N) -> usize
     ensures { result ≡ length (flat_map line_bytes (N.Net.meant net.now).lines) }
 {
-    let mut length = 0;
-    let mut k = 0;
-    while let Some(line) = net.line(k) {
-        length += line_length(&line);
-        k += 1;
-    }
-    length
+    Lines::of(net).map(|line| line_length(&line)).sum()
 }
 
 // How many bytes the book of a net takes.
