@@ -20,7 +20,7 @@ use Rattle.books.specs.Reading.{inside, placed, number_at, field_at}
 use Rattle.books.specs.Judging.{Judged}
 use Rattle.books.specs.Records.{station_at, limited_at, ends_at, open_at, terms_at, fields_at, in_line, record_at, records_at, line_numbers}
 use Rattle.books.proofs.BookRead.{count_read}
-use Rattle.books.proofs.Joining.{joined_append}
+use Rattle.std.proofs.lemmas.List.Concat.{flat_map-append}
 use Rattle.books.proofs.NumberTrips.{written_of_read}
 use Rattle.books.proofs.Readings.{ok_same, then_ok, inside_ok, guard_ok}
 
@@ -32,7 +32,7 @@ holds_more : (book : List ℕ) (p q r : ℕ) (ns ms : List ℕ) → Holds book p
 holds_more book p q r ns ms a b =
     a ∙ ap (λ (t : List ℕ). flat_map encoding ns ++ t) b
     ∙ sym (append_assoc (flat_map encoding ns) (flat_map encoding ms) (drop r book))
-    ∙ ap (λ (t : List ℕ). t ++ drop r book) (sym (joined_append encoding ns ms))
+    ∙ ap (λ (t : List ℕ). t ++ drop r book) (sym (flat_map-append encoding ns ms))
 
 bit_is : (s : ℕ) → s ≤ 1 → s ≡ cond (eqb s 1) 1 0
 bit_is zero h = refl

@@ -1,5 +1,5 @@
 -- The book of a net reads back as that net. Assumes nothing.
-use Rattle.std.proofs.Common.{◌≡◌, ℕ, zero, suc, ◌+◌, ◌/◌, ◌%◌, ◌^◌, ◌<◌, ◌≤◌, Bool, true, false, cond, ◌&&◌, eqb, ltb, leb, List, [], ◌∷◌, ◌++◌, length, take, drop, Ok, Err, sym, refl, ap, ◌∙◌, arith, length-drop}
+use Rattle.std.proofs.Common.{◌≡◌, ℕ, zero, suc, ◌+◌, ◌*◌, ◌/◌, ◌%◌, ◌^◌, ◌<◌, ◌≤◌, Bool, true, false, cond, ◌&&◌, eqb, ltb, leb, List, [], ◌∷◌, ◌++◌, length, take, drop, Ok, Err, sym, refl, ap, ◌∙◌, arith, length-drop}
 use Rattle.std.specs.List.{flat_map, AllByRecursion}
 use Rattle.std.proofs.ByRecursion.{All-append}
 use Rattle.std.proofs.lemmas.List.{drop-drop, drop_at, take_at}
@@ -17,7 +17,6 @@ use Rattle.books.specs.Records.{station_at, limited_at, ends_at, open_at, terms_
 use Rattle.books.proofs.BookAccepted.{is_book}
 use Rattle.books.proofs.NumberTrips.{read_of_written}
 use Rattle.books.proofs.Readings.{then_is}
-use Rattle.books.proofs.NumberWritten.{limit}
 
 -- From place p on the book holds just these numbers.
 abbrev HoldsToEnd : List ℕ → ℕ → List ℕ → Type 0
@@ -116,6 +115,11 @@ module _ (book : List ℕ) where
       then_is (head_at room book 0) (body_at book) (record { stations = m.stations; lines = length m.lines }, a.0) _ a.1
       (then_is (inside Record (records_at (length m.lines) 0 m.stations book a.0)) (closed_at book m.stations) (m.lines, b.0) _ (ap (inside Record) b.1)
       (then_is (end_at book b.0) _ tt _ (end_forth b.0 b.2) refl))
+
+-- what a number of so many groups stays below
+abbrev limit : ℕ → ℕ
+limit zero = 16
+limit (suc m) = 128 * limit m
 
 -- the bytes of a number below 2 ^ 32
 groups_bytes : (more n : ℕ) → n < limit more → Bytes (groups more n)

@@ -1,5 +1,5 @@
 -- A net's book as its head and its lines' records, and the output that holds it. Assumes nothing.
-use Rattle.std.proofs.Common.{◌≡◌, ℕ, ◌+◌, ◌≤◌, List, [], ◌∷◌, ◌++◌, length, drop, sym, refl, ap, ◌∙◌, zero-add, arith, length-append}
+use Rattle.std.proofs.Common.{◌≡◌, ℕ, ◌+◌, ◌*◌, ◌≤◌, List, [], ◌∷◌, ◌++◌, length, drop, refl, ap, ◌∙◌, zero-add, arith, length-append}
 use Rattle.std.proofs.Math.Seq.{paste}
 use Rattle.std.specs.List.{flat_map}
 use Rattle.std.proofs.lemmas.List.Edits.{paste_all}
@@ -8,13 +8,20 @@ use Rattle.nets.specs.Model.{Model, Sound}
 use Rattle.books.specs.Book.{head_numbers, book_of}
 use Rattle.books.specs.Number.{encoding}
 use Rattle.books.specs.Records.{line_numbers, line_bytes}
-use Rattle.books.proofs.Joining.{joined_append, length_most}
+use Rattle.books.proofs.BookReadBack.{one_book}
+use Rattle.std.proofs.lemmas.List.Concat.{flat_map-append}
 use Rattle.books.proofs.NumberWritten.{encoding_most}
 use Rattle.books.proofs.Writing.{Left, left_none, left_room, left_more}
 use Rattle.books.specs.declared.writer.Writer.{Writer}
 use Rattle.books.specs.Writing.{HasRoom, Writes}
 
-pub line_most : (l : Line) → length (line_bytes l) ≤ 25
+-- so many items with parts of at most so many bytes
+pub length_most : {X : Type 0} (f : X → List ℕ) (most : ℕ) → ((x : X) → length (f x) ≤ most) → (xs : List X) → length (flat_map f xs) ≤ length xs * most
+length_most f most h [] = omega arith
+length_most f most h (x ∷ xs) =
+    let r = length_most f most h xs in omega (arith, length-append (f x) (flat_map f xs), h x)
+
+line_most : (l : Line) → length (line_bytes l) ≤ 25
 unfolding line_bytes
 line_most l = length_most encoding 5 encoding_most (line_numbers l)
 
@@ -22,12 +29,12 @@ records_joined : (ls : List Line) → flat_map encoding (flat_map line_numbers l
 unfolding line_bytes
 records_joined [] = refl
 records_joined (l ∷ ls) =
-    joined_append encoding (line_numbers l) (flat_map line_numbers ls) ∙ ap (λ (t : List ℕ). flat_map encoding (line_numbers l) ++ t) (records_joined ls)
+    flat_map-append encoding (line_numbers l) (flat_map line_numbers ls) ∙ ap (λ (t : List ℕ). flat_map encoding (line_numbers l) ++ t) (records_joined ls)
 
 pub book_parts : (m : Model) → book_of m ≡ flat_map encoding (head_numbers m) ++ flat_map line_bytes m.lines
 unfolding book_of
 book_parts m =
-    joined_append encoding (head_numbers m) (flat_map line_numbers m.lines)
+    flat_map-append encoding (head_numbers m) (flat_map line_numbers m.lines)
     ∙ ap (λ (t : List ℕ). flat_map encoding (head_numbers m) ++ t) (records_joined m.lines)
 
 module _ (m : Model) (s : Sound m) where
@@ -39,6 +46,8 @@ module _ (m : Model) (s : Sound m) where
 
   pub book_length : length (book_of m) ≡ length (flat_map encoding (head_numbers m)) + length (flat_map line_bytes m.lines)
   book_length = ap length (book_parts m) ∙ length-append (flat_map encoding (head_numbers m)) (flat_map line_bytes m.lines)
+
+pub ruleset length_steps = (head_most, lines_most, book_length, one_book)
 
 -- The head is written, and behind it the records.
 module _ (m : Model) (ns : List ℕ) (e : ns ≡ head_numbers m) (before : Writer) (r : HasRoom (book_of m) before) where

@@ -3,7 +3,6 @@ pub mod NumberWritten
 pub mod Readings
 pub mod RecordsRead
 pub mod BookRead
-pub mod Joining
 pub mod BookWritten
 pub mod NumberTrips
 pub mod BookAccepted

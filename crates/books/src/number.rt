@@ -39,6 +39,7 @@ pub fn read_number(bytes: &[u8]) -> Result<(u32, usize), NumberError>
 }
 
 // How many bytes a number takes.
+#[tactic(auto, unfolding(crate::specs::Number::encoding))]
 pub(crate) fn number_length(n: u32) -> usize
     ensures { result ≡ length (encoding n) }
 {

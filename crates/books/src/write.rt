@@ -37,6 +37,7 @@ fn numbers_length(numbers: &[u32]) -> usize
     numbers.iter().map(|n| number_length(*n)).sum()
 }
 
+#[tactic(auto, unfolding(crate::specs::Records::line_bytes))]
 fn line_length(line: &Line) -> usize
     ensures { result ≡ length (line_bytes line.now) }
 {
@@ -51,6 +52,7 @@ fn lines_length<N: Net>(net: &N) -> usize
 }
 
 // How many bytes the book of a net takes.
+#[tactic(auto, using(crate::proofs::BookWritten::length_steps))]
 fn book_length<N: Net>(net: &N) -> usize
     ensures length { result ≡ length (book_of (N.Net.meant net.now)) }
     ensures one { OneBook (N.Net.meant net.now) }

@@ -1,10 +1,10 @@
-use Rattle.std.proofs.Common.{◌≡◌, ◌<◌, ◌^◌, length, rules, sym, ◌∙◌, arith}
+use Rattle.std.proofs.Common.{◌<◌, ◌^◌, length, rules, sym, ◌∙◌, arith}
 use Rattle.std.specs.List.{sum_by}
 use Rattle.std.proofs.lemmas.Iterator.{YieldsList-from_slice, YieldsList-from_map}
 use Rattle.std.proofs.lemmas.Iterator.Consumers.{YieldsList-at, fits_by_from_yields_list, sum_by_from_yields_List}
 use Rattle.std.proofs.lemmas.List.Concat.{length-flat_map}
 use Rattle.books.specs.Number.{encoding}
-use Rattle.books.proofs.Joining.{length_most}
+use Rattle.books.proofs.BookWritten.{length_most}
 use Rattle.books.proofs.NumberWritten.{encoding_most}
 use Rattle.books.proofs.write.numbers_length.Goals as goal
 

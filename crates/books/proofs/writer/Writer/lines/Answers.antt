@@ -1,6 +1,6 @@
 use Rattle.std.proofs.Common.{rules}
 use Rattle.books.specs.Records.{line_bytes}
-use Rattle.books.proofs.Writing.{item_steps, item_room, item_more, items_all, left_none}
+use Rattle.books.proofs.Writing.{item_room, item_more, items_all, left_none}
 use Rattle.books.proofs.writer.Writer.lines.Goals as goal
 
 pub loop-line-init : goal.loop-line-init

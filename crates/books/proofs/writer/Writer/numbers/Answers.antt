@@ -1,7 +1,7 @@
 use Rattle.std.proofs.Common.{rules, arith}
-use Rattle.std.proofs.lemmas.List.{drop_more, drop_all}
+use Rattle.std.proofs.lemmas.List.{drop_more}
 use Rattle.books.specs.Number.{encoding}
-use Rattle.books.proofs.Writing.{item_steps, item_room, item_more, items_all}
+use Rattle.books.proofs.Writing.{item_steps, item_room}
 use Rattle.books.proofs.writer.Writer.numbers.Goals as goal
 
 pub number-requires : goal.number-requires
