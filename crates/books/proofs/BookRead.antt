@@ -5,15 +5,15 @@ use Rattle.nets.specs.declared.line.Line.{Line}
 use Rattle.nets.specs.Model.{max_lines}
 use Rattle.books.specs.declared.head.Head.{Head}
 use Rattle.books.specs.declared.reader.Reader.{Reader}
-use Rattle.books.specs.declared.fault.BookFault.TheVariants.{HeadNumber, HeadLimit, TableShort, Record}
+use Rattle.books.specs.declared.fault.BookFault.TheVariants.{HeadNumber, HeadLimit, TableShort}
 use Rattle.books.specs.declared.fault.RecordFault.{RecordFault}
-use Rattle.books.specs.Book.{edition_at, stations_at, lines_at, head_at, end_at, closed_at, body_at, reading}
+use Rattle.books.specs.Book.{edition_at, stations_at, lines_at, head_at, end_at, reading}
 use Rattle.books.specs.Cursor.{Reads, value_of, cursor_after}
 use Rattle.books.specs.Faults.{place_of, fault_place}
-use Rattle.books.specs.Reading.{and_then, inside, field_at}
+use Rattle.books.specs.Reading.{field_at}
 use Rattle.books.specs.Judging.{Judged, passed}
 use Rattle.books.specs.Records.{record_at, records_at}
-use Rattle.books.proofs.Readings.{told, ok_same, is_ok, then_is, then_ok, guard_ok}
+use Rattle.books.proofs.Readings.{told, ok_same, is_ok, then_ok, guard_ok}
 
 -- as many records are read as there should be
 pub count_read : (left k stations : ℕ) (book : List ℕ) (p : ℕ) (ls : List Line) (q : ℕ) → records_at left k stations book p ≡ Ok (ls, q) → length ls ≡ left
@@ -57,9 +57,7 @@ judged room book first behind last h u t b z r p e =
     record {
       lines = ls.0;
       count = count_read h.lines 0 h.stations book behind.at ls.0 last.at ls.1;
-      net = then_is (head_at room book 0) (body_at book) (h, behind.at) _ head
-          (then_is (inside Record (records_at h.lines 0 h.stations book behind.at)) (closed_at book h.stations) (ls.0, last.at) _ (ap (inside Record) ls.1)
-          (ap (λ x. and_then x (λ _. Ok (record { stations = h.stations; lines = ls.0 }))) (sym end)));
+      net = cc (head, ls.1, end);
       end = last.at;
       records = ls.1;
       fits = head_room room book 0 h behind.at head;

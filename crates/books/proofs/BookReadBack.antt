@@ -3,20 +3,19 @@ use Rattle.std.proofs.Common.{◌≡◌, ℕ, zero, suc, ◌+◌, ◌*◌, ◌/�
 use Rattle.std.specs.List.{flat_map, AllByRecursion}
 use Rattle.std.proofs.ByRecursion.{All-append}
 use Rattle.std.proofs.lemmas.List.{drop-drop, drop_at, take_at}
-use Rattle.std.proofs.lemmas.Bool.{lt-ltb, le-ltb, le-leb, ltb-true, and_from, cond-true, cond-false, cond_both}
+use Rattle.std.proofs.lemmas.Bool.{lt-ltb, le-ltb, le-leb, ltb-true, and_from, cond-false, cond_both}
 use Rattle.nets.specs.declared.line.Line.{Line}
 use Rattle.nets.specs.Model.{Model, Sound, LineLimits, max_stations, max_lines, max_fee, max_loss}
 use Rattle.books.specs.declared.fault.NumberFault.{NumberFault}
-use Rattle.books.specs.declared.fault.BookFault.TheVariants.{HeadNumber, Edition, HeadLimit, TableShort, BytesLeft, Record}
+use Rattle.books.specs.declared.fault.BookFault.TheVariants.{HeadNumber, Edition, HeadLimit, BytesLeft}
 use Rattle.books.specs.declared.fault.RecordError.TheVariants.{Number, Station, Limit}
-use Rattle.books.specs.Book.{edition_at, stations_at, lines_at, head_at, end_at, closed_at, body_at, reading, book_numbers, book_of}
+use Rattle.books.specs.Book.{head_at, end_at, reading, book_numbers, book_of}
 use Rattle.books.specs.Number.{number, groups, encoding}
 use Rattle.books.specs.OneBook.{Bytes, ReadsAs, OneBook}
 use Rattle.books.specs.Reading.{inside, placed, number_at, field_at}
-use Rattle.books.specs.Records.{station_at, limited_at, ends_at, open_at, terms_at, fields_at, in_line, record_at, records_at, line_numbers}
+use Rattle.books.specs.Records.{open_at, fields_at, in_line, record_at, records_at, line_numbers}
 use Rattle.books.proofs.BookAccepted.{is_book}
 use Rattle.books.proofs.NumberTrips.{read_of_written}
-use Rattle.books.proofs.Readings.{then_is}
 
 -- From place p on the book holds just these numbers.
 abbrev HoldsToEnd : List ℕ → ℕ → List ℕ → Type 0
@@ -44,8 +43,7 @@ module _ (book : List ℕ) where
   field_forth : {F : Type 0} (wrap : NumberFault → F) (test : ℕ → Bool) (fault : ℕ → F) (p n : ℕ) (ns : List ℕ)
       → HoldsToEnd book p (n ∷ ns) → n < 2 ^ 32 → test n ≡ true → (field_at wrap test fault book p ≡ Ok (n, next p n)) × HoldsToEnd book (next p n) ns
   field_forth wrap test fault p n ns h s t =
-      let f = number_forth p n ns h s in
-      (then_is (inside wrap (number_at book p)) _ (n, next p n) _ (ap (inside wrap) f.0) (cond-true (test n) (Ok (n, next p n)) (Err (fault p)) t), f.1)
+      let f = number_forth p n ns h s in (cc (f.0, t), f.1)
 
   record_forth : (k stations p : ℕ) (l : Line) (ns : List ℕ) → stations ≤ max_stations → LineLimits stations l → HoldsToEnd book p (line_numbers l ++ ns)
       → (q : ℕ) × (record_at k stations book p ≡ Ok (l, q)) × HoldsToEnd book q ns
@@ -62,15 +60,8 @@ module _ (book : List ℕ) where
       let c = field_forth Number (λ n. leb n max_fee) Limit p2 l.fee (l.loss ∷ bit ∷ ns) b.1 (omega (arith, m.fee)) (le-leb l.fee max_fee m.fee) in
       let d = field_forth Number (λ n. leb n max_loss) Limit p3 l.loss (bit ∷ ns) c.1 (omega (arith, m.loss)) (le-leb l.loss max_loss m.loss) in
       let e = field_forth Number (λ n. leb n 1) Limit p4 bit ns d.1 (omega (arith, bit_most l.«open»)) (le-leb bit 1 (bit_most l.«open»)) in
-      let ends : ends_at stations book p ≡ Ok ((l.from, l.to), p2) =
-      then_is (station_at stations book p) _ (l.from, p1) _ a.0 (then_is (station_at stations book p1) _ (l.to, p2) _ b.0 refl) in
-      let standing : open_at book p4 ≡ Ok (l.«open», p5) =
-      then_is (limited_at 1 book p4) _ (bit, p5) _ e.0 (ap (λ (b : Bool). Ok (b, p5)) (bit_open l.«open»)) in
-      let terms : terms_at book p2 ≡ Ok ((l.fee, l.loss, l.«open»), p5) =
-      then_is (limited_at max_fee book p2) _ (l.fee, p3) _ c.0
-      (then_is (limited_at max_loss book p3) _ (l.loss, p4) _ d.0 (then_is (open_at book p4) _ (l.«open», p5) _ standing refl)) in
-      let fields : fields_at stations book p ≡ Ok (l, p5) =
-      then_is (ends_at stations book p) _ ((l.from, l.to), p2) _ ends (then_is (terms_at book p2) _ ((l.fee, l.loss, l.«open»), p5) _ terms refl) in
+      let standing : open_at book p4 ≡ Ok (l.«open», p5) = cc (e.0, bit_open l.«open») in
+      let fields : fields_at stations book p ≡ Ok (l, p5) = cc (a.0, b.0, c.0, d.0, standing) in
       (p5, ap (inside (in_line k)) fields, e.1)
 
   records_forth : (stations : ℕ) (ls : List Line) (k p : ℕ) → stations ≤ max_stations → AllByRecursion (LineLimits stations) ls → HoldsToEnd book p (flat_map line_numbers ls)
@@ -78,11 +69,7 @@ module _ (book : List ℕ) where
   records_forth stations [] k p few m h = (p, refl, h)
   records_forth stations (l ∷ ls) k p few m h =
       let a = record_forth k stations p l (flat_map line_numbers ls) few m.0 h in
-      let b = records_forth stations ls (k + 1) a.0 few m.1 a.2 in (
-        b.0,
-        then_is (record_at k stations book p) _ (l, a.0) _ a.1 (then_is (records_at (length ls) (k + 1) stations book a.0) _ (ls, b.0) _ b.1 refl),
-        b.2,
-      )
+      let b = records_forth stations ls (k + 1) a.0 few m.1 a.2 in (b.0, cc (a.1, b.1), b.2)
 
   head_forth : (room : ℕ) (m : Model) → Sound m → length m.lines ≤ room → HoldsToEnd book 0 (book_numbers m)
       → (q : ℕ) × (head_at room book 0 ≡ Ok (record { stations = m.stations; lines = length m.lines }, q)) × HoldsToEnd book q (flat_map line_numbers m.lines)
@@ -96,12 +83,7 @@ module _ (book : List ℕ) where
       let b = field_forth HeadNumber (λ x. ltb 0 x && leb x max_stations) HeadLimit p1 m.stations (n ∷ flat_map line_numbers m.lines) a.1 (omega (arith, s.few))
       (and_from _ _ (lt-ltb 0 m.stations s.some) (le-leb m.stations max_stations s.few)) in
       let c = field_forth HeadNumber (λ x. leb x max_lines) HeadLimit p2 n (flat_map line_numbers m.lines) b.1 (omega (arith, s.short)) (le-leb n max_lines s.short) in
-      let lines : lines_at room book p2 ≡ Ok (n, p3) =
-      then_is (field_at HeadNumber (λ x. leb x max_lines) HeadLimit book p2) _ (n, p3) _ c.0 (cond-true (leb n room) (Ok (n, p3)) (Err (TableShort p2)) (le-leb n room fits)) in (
-        p3,
-        then_is (edition_at book 0) _ (1, p1) _ a.0 (then_is (stations_at book p1) _ (m.stations, p2) _ b.0 (then_is (lines_at room book p2) _ (n, p3) _ lines refl)),
-        c.1,
-      )
+      (p3, cc (a.0, b.0, c.0, le-leb n room fits), c.1)
 
   end_forth : (p : ℕ) → drop p book ≡ [] → end_at book p ≡ Ok tt
   end_forth p h =
@@ -112,9 +94,7 @@ module _ (book : List ℕ) where
   reading_forth room m s fits h =
       let a = head_forth room m s fits h in
       let b = records_forth m.stations m.lines 0 a.0 s.few s.each a.2 in
-      then_is (head_at room book 0) (body_at book) (record { stations = m.stations; lines = length m.lines }, a.0) _ a.1
-      (then_is (inside Record (records_at (length m.lines) 0 m.stations book a.0)) (closed_at book m.stations) (m.lines, b.0) _ (ap (inside Record) b.1)
-      (then_is (end_at book b.0) _ tt _ (end_forth b.0 b.2) refl))
+      cc (a.1, b.1, end_forth b.0 b.2)
 
 -- what a number of so many groups stays below
 abbrev limit : ℕ → ℕ

@@ -1,13 +1,12 @@
 -- What the answer and the cursor of a reading tell of it. Assumes nothing.
-use Rattle.std.proofs.Common.{◌≡◌, ℕ, Bool, true, false, cond, List, Ok, Err, Result, sym, refl, ap, ◌∙◌}
+use Rattle.std.proofs.Common.{◌≡◌, ℕ, Bool, true, false, cond, List, Ok, Err, Result, refl, ap, ◌∙◌}
 use Rattle.books.specs.declared.reader.Reader.{Reader}
 use Rattle.books.specs.Cursor.{Reads, value_of, cursor_after}
 use Rattle.books.specs.Reading.{and_then, inside}
 
 module _ {A F : Type 0} (place : F → ℕ) where
   pub is_ok : (r : Result (A × ℕ) F) (v : A) (q : ℕ) → Ok v ≡ value_of r → q ≡ cursor_after place r → r ≡ Ok (v, q)
-  is_ok (Ok x) v q a b =
-      let p : x.0 ≡ v = cc in let s : x.1 ≡ q = sym b in let e : x ≡ (v, q) = λ i. (p i, s i) in ap Ok e
+  is_ok (Ok (y, s)) v q a b = cc
   is_ok (Err e) v q a b = cc
 
   pub ok_then : {B : Type 0} (r : Result (A × ℕ) F) (v : A) (q : ℕ) (f : A × ℕ → Result B F)
