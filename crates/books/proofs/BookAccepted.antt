@@ -1,16 +1,18 @@
 -- A run of bytes that is accepted is the book of the net that it means. Assumes nothing.
-use Rattle.std.proofs.Common.{◌≡◌, ℕ, zero, suc, ◌+◌, ◌<◌, ◌≤◌, Bool, true, false, cond, ◌&&◌, eqb, ltb, leb, List, [], ◌∷◌, ◌++◌, length, get_or, Fits, w8, take, drop, Ok, Err, Result, sym, refl, ap, ◌∙◌, subst, append_assoc, append-nil, arith, take-append-drop}
+use Rattle.std.proofs.Common.{◌≡◌, ℕ, zero, suc, ◌+◌, ◌<◌, ◌≤◌, Bool, true, cond, ◌&&◌, eqb, ltb, leb, List, [], ◌∷◌, ◌++◌, length, get_or, Fits, w8, take, drop, Ok, Err, Result, sym, refl, ap, ◌∙◌, append-nil, arith, take-append-drop}
 use Rattle.std.specs.List.{flat_map, AllByRecursion}
 use Rattle.std.proofs.ByRecursion.{All-drop, All-from_get_or}
 use Rattle.std.proofs.lemmas.List.{drop-drop, drop_all, take_at}
-use Rattle.std.proofs.lemmas.Bool.{ltb-true, ltb-false, leb-true, eqb-true, and_parts}
+use Rattle.std.proofs.lemmas.Bool.{ltb-true, leb-true, eqb-true, and_parts}
+use Rattle.std.proofs.lemmas.Grind.{common_steps}
+use Rattle.std.proofs.lemmas.Bool.Decides.{nat_tests}
 use Rattle.nets.specs.declared.line.Line.{Line}
 use Rattle.nets.specs.Listed.{listed}
 use Rattle.nets.proofs.Records.{listed_sound}
 use Rattle.nets.specs.Model.{Model, Sound, LineLimits, max_stations, max_lines, max_fee, max_loss}
 use Rattle.books.specs.declared.number.NumberError.{NumberError}
 use Rattle.books.specs.declared.fault.NumberFault.{NumberFault}
-use Rattle.books.specs.declared.fault.BookFault.TheVariants.{HeadNumber, Edition, HeadLimit, TableShort, BytesLeft, Record}
+use Rattle.books.specs.declared.fault.BookFault.TheVariants.{HeadNumber, Edition, HeadLimit, TableShort, Record}
 use Rattle.books.specs.declared.fault.RecordError.TheVariants.{Number, Station, Limit}
 use Rattle.books.specs.declared.head.Head.{Head}
 use Rattle.books.specs.Book.{edition_at, stations_at, lines_at, head_at, end_at, closed_at, body_at, reading, table_after, book_of}
@@ -20,7 +22,6 @@ use Rattle.books.specs.Reading.{inside, placed, number_at, field_at}
 use Rattle.books.specs.Judging.{Judged}
 use Rattle.books.specs.Records.{station_at, limited_at, ends_at, open_at, terms_at, fields_at, in_line, record_at, records_at, line_numbers}
 use Rattle.books.proofs.BookRead.{count_read}
-use Rattle.std.proofs.lemmas.List.Concat.{flat_map-append}
 use Rattle.books.proofs.NumberTrips.{written_of_read}
 use Rattle.books.proofs.Readings.{ok_same, then_ok, inside_ok, guard_ok}
 
@@ -30,14 +31,10 @@ Holds book p ns q = drop p book ≡ flat_map encoding ns ++ drop q book
 
 holds_more : (book : List ℕ) (p q r : ℕ) (ns ms : List ℕ) → Holds book p ns q → Holds book q ms r → Holds book p (ns ++ ms) r
 holds_more book p q r ns ms a b =
-    a ∙ ap (λ (t : List ℕ). flat_map encoding ns ++ t) b
-    ∙ sym (append_assoc (flat_map encoding ns) (flat_map encoding ms) (drop r book))
-    ∙ ap (λ (t : List ℕ). t ++ drop r book) (sym (flat_map-append encoding ns ms))
+    grind (arith, common_steps)
 
 bit_is : (s : ℕ) → s ≤ 1 → s ≡ cond (eqb s 1) 1 0
-bit_is zero h = refl
-bit_is (suc zero) h = refl
-bit_is (suc (suc s)) h = absurd (omega arith)
+bit_is s h = grind (arith, nat_tests)
 
 -- What was read is what the book holds.
 module _ (book : List ℕ) (bytes : Bytes book) where
@@ -71,8 +68,7 @@ module _ (book : List ℕ) (bytes : Bytes book) where
       then_ok (station_at stations book from.1) _ x g (λ to t u.
       let a = field_back Number (λ n. ltb n stations) Station p from.0 from.1 f in
       let b = field_back Number (λ n. ltb n stations) Station from.1 to.0 to.1 t in
-      let P : (ℕ × ℕ) × ℕ → Type 0 = λ y. Holds book p (y.0.0 ∷ y.0.1 ∷ []) y.1 × (y.0.0 < stations) × (y.0.1 < stations) in
-      subst P (ok_same u) (
+      rw (← ok_same u) (
         holds_more book p from.1 to.1 (from.0 ∷ []) (to.0 ∷ []) a.0 b.0,
         ltb-true from.0 stations a.1,
         ltb-true to.0 stations b.1,
@@ -82,8 +78,7 @@ module _ (book : List ℕ) (bytes : Bytes book) where
   open_back p x e =
       then_ok (limited_at 1 book p) _ x e (λ n f g.
       let a = field_back Number (λ n. leb n 1) Limit p n.0 n.1 f in
-      let P : Bool × ℕ → Type 0 = λ y. Holds book p (cond y.0 1 0 ∷ []) y.1 in
-      subst P (ok_same g) (a.0 ∙ ap (λ m. flat_map encoding (m ∷ []) ++ drop n.1 book) (bit_is n.0 (leb-true n.0 1 a.1))))
+      rw (← ok_same g) (a.0 ∙ ap (λ m. flat_map encoding (m ∷ []) ++ drop n.1 book) (bit_is n.0 (leb-true n.0 1 a.1))))
 
   terms_back : (p : ℕ) (x : (ℕ × ℕ × Bool) × ℕ) → terms_at book p ≡ Ok x
       → Holds book p (x.0.0 ∷ x.0.1 ∷ cond x.0.2 1 0 ∷ []) x.1 × (x.0.0 ≤ max_fee) × (x.0.1 ≤ max_loss)
@@ -93,8 +88,7 @@ module _ (book : List ℕ) (bytes : Bytes book) where
       then_ok (open_at book loss.1) _ x m (λ standing s t.
       let a = field_back Number (λ n. leb n max_fee) Limit p fee.0 fee.1 f in
       let b = field_back Number (λ n. leb n max_loss) Limit fee.1 loss.0 loss.1 l in
-      let P : (ℕ × ℕ × Bool) × ℕ → Type 0 = λ y. Holds book p (y.0.0 ∷ y.0.1 ∷ cond y.0.2 1 0 ∷ []) y.1 × (y.0.0 ≤ max_fee) × (y.0.1 ≤ max_loss) in
-      subst P (ok_same t) (
+      rw (← ok_same t) (
         holds_more book p fee.1 standing.1 (fee.0 ∷ []) (loss.0 ∷ cond standing.0 1 0 ∷ []) a.0
             (holds_more book fee.1 loss.1 standing.1 (loss.0 ∷ []) (cond standing.0 1 0 ∷ []) b.0 (open_back loss.1 standing s)),
         leb-true fee.0 max_fee a.1,
@@ -108,8 +102,7 @@ module _ (book : List ℕ) (bytes : Bytes book) where
       then_ok (terms_at book ends.1) _ x b (λ terms v w.
       let f = ends_back stations p ends a in
       let t = terms_back ends.1 terms v in
-      let P : Line × ℕ → Type 0 = λ y. Holds book p (line_numbers y.0) y.1 × LineLimits stations y.0 in
-      subst P (ok_same w) (
+      rw (← ok_same w) (
         holds_more book p ends.1 terms.1 (ends.0.0 ∷ ends.0.1 ∷ []) (terms.0.0 ∷ terms.0.1 ∷ cond terms.0.2 1 0 ∷ []) f.0 t.0,
         record { from = f.1; to = f.2; fee = t.1; loss = t.2 },
       )))
@@ -118,15 +111,13 @@ module _ (book : List ℕ) (bytes : Bytes book) where
       → Holds book p (flat_map line_numbers x.0) x.1 × AllByRecursion (LineLimits stations) x.0
   unfolding record_at
   records_back zero k stations p x e =
-      let P : List Line × ℕ → Type 0 = λ y. Holds book p (flat_map line_numbers y.0) y.1 × AllByRecursion (LineLimits stations) y.0 in
-      subst P (ok_same e) (refl, tt)
+      rw (← ok_same e) (refl, tt)
   records_back (suc left) k stations p x e =
       then_ok (record_at k stations book p) _ x e (λ first f g.
       then_ok (records_at left (k + 1) stations book first.1) _ x g (λ rest r h.
       let a = fields_back stations p first (inside_ok (in_line k) (fields_at stations book p) first f) in
       let b = records_back left (k + 1) stations first.1 rest r in
-      let P : List Line × ℕ → Type 0 = λ y. Holds book p (flat_map line_numbers y.0) y.1 × AllByRecursion (LineLimits stations) y.0 in
-      subst P (ok_same h) (
+      rw (← ok_same h) (
         holds_more book p first.1 rest.1 (line_numbers first.0) (flat_map line_numbers rest.0) a.0 b.0,
         (a.1, b.1),
       )))
@@ -145,8 +136,7 @@ module _ (book : List ℕ) (bytes : Bytes book) where
       let l = field_back HeadNumber (λ n. leb n max_lines) HeadLimit stations.1 lines.0 lines.1 (h ∙ ap Ok t.1) in
       let one = eqb-true edition.0 1 r.1 in
       let both = and_parts (ltb 0 stations.0) (leb stations.0 max_stations) s.1 in
-      let P : Head × ℕ → Type 0 = λ y. Holds book p (1 ∷ y.0.stations ∷ y.0.lines ∷ []) y.1 × (1 ≤ y.0.stations) × (y.0.stations ≤ max_stations) × (y.0.lines ≤ max_lines) in
-      subst P (ok_same g) (
+      rw (← ok_same g) (
         holds_more book p edition.1 lines.1 (1 ∷ []) (stations.0 ∷ lines.0 ∷ [])
             (r.0 ∙ ap (λ n. flat_map encoding (n ∷ []) ++ drop edition.1 book) one)
             (holds_more book edition.1 stations.1 lines.1 (stations.0 ∷ []) (lines.0 ∷ []) s.0 l.0),
@@ -157,11 +147,7 @@ module _ (book : List ℕ) (bytes : Bytes book) where
 
   -- the end is at or behind the last byte
   end_back : (p : ℕ) (t : Unit {0}) → end_at book p ≡ Ok t → drop p book ≡ []
-  end_back p t e = past (ltb p (length book)) refl e
-    where
-      past : (b : Bool) → ltb p (length book) ≡ b → cond b (Err (BytesLeft p)) (Ok tt) ≡ Ok t → drop p book ≡ []
-      past true s q = cc
-      past false s q = drop_all p book (ltb-false p (length book) s)
+  end_back p t e = let h : length book ≤ p = grind (arith, nat_tests) in drop_all p book h
 
   -- a run of bytes that is accepted means a net within the limits, and is the book of that net
   pub is_book : (room : ℕ) (m : Model) → reading room book ≡ Ok m → Sound m × (book ≡ book_of m)
@@ -175,8 +161,7 @@ module _ (book : List ℕ) (bytes : Bytes book) where
       let r = records_back head.0.lines 0 head.0.stations head.1 records rs in
       let n : length records.0 ≡ head.0.lines = count_read head.0.lines 0 head.0.stations book head.1 records.0 records.1 rs in
       let all : List ℕ = 1 ∷ head.0.stations ∷ head.0.lines ∷ flat_map line_numbers records.0 in
-      let P : Model → Type 0 = λ y. Sound y × (book ≡ book_of y) in
-      subst P (ok_same g) (
+      rw (← ok_same g) (
         record { some = h.1; few = h.2; short = omega (arith, n, h.3); each = r.1 },
         holds_more book 0 head.1 records.1 (1 ∷ head.0.stations ∷ head.0.lines ∷ []) (flat_map line_numbers records.0) h.0 r.0
             ∙ ap (λ (l : List ℕ). flat_map encoding all ++ l) (end_back records.1 t f) ∙ append-nil (flat_map encoding all)

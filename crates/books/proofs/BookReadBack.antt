@@ -1,13 +1,14 @@
 -- The book of a net reads back as that net. Assumes nothing.
-use Rattle.std.proofs.Common.{◌≡◌, ℕ, zero, suc, ◌+◌, ◌*◌, ◌/◌, ◌%◌, ◌^◌, ◌<◌, ◌≤◌, Bool, true, false, cond, ◌&&◌, eqb, ltb, leb, List, [], ◌∷◌, ◌++◌, length, take, drop, Ok, Err, sym, refl, ap, ◌∙◌, arith, length-drop}
+use Rattle.std.proofs.Common.{◌≡◌, ℕ, zero, suc, ◌+◌, ◌*◌, ◌/◌, ◌%◌, ◌^◌, ◌<◌, ◌≤◌, Bool, true, false, cond, ◌&&◌, eqb, ltb, leb, List, [], ◌∷◌, ◌++◌, length, take, drop, Ok, sym, refl, ap, ◌∙◌, arith, length-drop}
 use Rattle.std.specs.List.{flat_map, AllByRecursion}
 use Rattle.std.proofs.ByRecursion.{All-append}
 use Rattle.std.proofs.lemmas.List.{drop-drop, drop_at, take_at}
-use Rattle.std.proofs.lemmas.Bool.{lt-ltb, le-ltb, le-leb, ltb-true, and_from, cond-false, cond_both}
+use Rattle.std.proofs.lemmas.Bool.{lt-ltb, le-leb, ltb-true, and_from, cond_both}
+use Rattle.std.proofs.lemmas.Bool.Decides.{nat_tests}
 use Rattle.nets.specs.declared.line.Line.{Line}
 use Rattle.nets.specs.Model.{Model, Sound, LineLimits, max_stations, max_lines, max_fee, max_loss}
 use Rattle.books.specs.declared.fault.NumberFault.{NumberFault}
-use Rattle.books.specs.declared.fault.BookFault.TheVariants.{HeadNumber, Edition, HeadLimit, BytesLeft}
+use Rattle.books.specs.declared.fault.BookFault.TheVariants.{HeadNumber, Edition, HeadLimit}
 use Rattle.books.specs.declared.fault.RecordError.TheVariants.{Number, Station, Limit}
 use Rattle.books.specs.Book.{head_at, end_at, reading, book_numbers, book_of}
 use Rattle.books.specs.Number.{number, groups, encoding}
@@ -87,7 +88,7 @@ module _ (book : List ℕ) where
 
   end_forth : (p : ℕ) → drop p book ≡ [] → end_at book p ≡ Ok tt
   end_forth p h =
-      cond-false (ltb p (length book)) (Err (BytesLeft p)) (Ok tt) (le-ltb p (length book) (omega (arith, ap length h, length-drop p book)))
+      let n = length-drop p book in grind (arith, nat_tests)
 
   reading_forth : (room : ℕ) (m : Model) → Sound m → length m.lines ≤ room → HoldsToEnd book 0 (book_numbers m) → reading room book ≡ Ok m
   unfolding reading
