@@ -50,22 +50,7 @@ pub left_all : (all : List ℕ) (before now : Writer) → Left all [] before now
 left_all all before now l = l.then_all now (record { place = omega arith; output = paste_none now.out.now now.at []; lender = refl })
 
 -- the steps of the loop that writes a number
-pub number_room : (all : List ℕ) (n : ℕ) (before now : Writer) → Left all (encoding n) before now → 128 ≤ n → n < 2 ^ 32 → HasRoom ((n % 128 + 128) ∷ []) now
-number_room all n before now l q h = left_room all (encoding n) ((n % 128 + 128) ∷ []) (encoding (n / 128)) before now l (encoding_more n h q)
-
-pub number_more : (all : List ℕ) (n : ℕ) (before now after : Writer) → Left all (encoding n) before now → 128 ≤ n → n < 2 ^ 32
-    → Writes ((n % 128 + 128) ∷ []) now after → Left all (encoding (n / 128)) before after
-number_more all n before now after l q h w =
-    left_more all (encoding n) ((n % 128 + 128) ∷ []) (encoding (n / 128)) before now after l (encoding_more n h q) w
-
-pub last_room : (all : List ℕ) (n : ℕ) (before now : Writer) → Left all (encoding n) before now → n < 128 → HasRoom (n ∷ []) now
-last_room all n before now l h = rw (encoding_last n h) at l.room
-
-pub number_all : (all : List ℕ) (n : ℕ) (before now after : Writer) → Left all (encoding n) before now → n < 128 → Writes (n ∷ []) now after
-    → Writes all before after
-number_all all n before now after l h w = l.then_all after (rw (encoding_last n h) w)
-
-pub ruleset number_steps = (left_none, number_room, number_more, last_room, number_all)
+pub ruleset number_steps = (left_none, left_room, left_more, left_all, encoding_last, encoding_more)
 
 -- the steps of a loop that writes the items of a list one after another, of which xs are left
 module _ {X : Type 0} (f : X → List ℕ) (all : List ℕ) (xs : List X) (before now : Writer) (l : Left all (flat_map f xs) before now) where
