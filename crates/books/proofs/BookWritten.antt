@@ -11,7 +11,7 @@ use Rattle.books.specs.Records.{line_numbers, line_bytes}
 use Rattle.books.proofs.BookReadBack.{one_book}
 use Rattle.std.proofs.lemmas.List.Concat.{flat_map-append}
 use Rattle.books.proofs.NumberWritten.{encoding_most}
-use Rattle.books.proofs.Writing.{Left, left_none, left_room, left_more}
+use Rattle.books.proofs.Writing.{Left, left_none, left_more}
 use Rattle.books.specs.declared.writer.Writer.{Writer}
 use Rattle.books.specs.Writing.{HasRoom, Writes}
 
@@ -49,28 +49,15 @@ module _ (m : Model) (s : Sound m) where
 
 pub ruleset length_steps = (head_most, lines_most, book_length, one_book)
 
--- The head is written, and behind it the records.
-module _ (m : Model) (ns : List ℕ) (e : ns ≡ head_numbers m) (before : Writer) (r : HasRoom (book_of m) before) where
-  left_book : Left (book_of m) (book_of m) before before
-  left_book = left_none (book_of m) before r
+-- The head is written first, and then the records are left.
+module _ (m : Model) (ns : List ℕ) (e : ns ≡ head_numbers m) where
+  pub head_first : book_of m ≡ flat_map encoding ns ++ flat_map line_bytes m.lines
+  head_first = rw e (book_parts m)
 
-  parts : book_of m ≡ flat_map encoding ns ++ flat_map line_bytes m.lines
-  parts = rw e (book_parts m)
-
-  pub head_room : HasRoom (flat_map encoding ns) before
-  head_room = left_room (book_of m) (book_of m) (flat_map encoding ns) (flat_map line_bytes m.lines) before before left_book parts
-
-  module _ (now : Writer) (w : Writes (flat_map encoding ns) before now) where
-    left_lines : Left (book_of m) (flat_map line_bytes m.lines) before now
-    left_lines = left_more (book_of m) (book_of m) (flat_map encoding ns) (flat_map line_bytes m.lines) before before now left_book parts w
-
-    pub lines_room : HasRoom (flat_map line_bytes m.lines) now
-    lines_room = left_lines.room
-
-    pub book_written : (after : Writer) → Writes (flat_map line_bytes m.lines) now after → Writes (book_of m) before after
-    book_written after v = left_lines.then_all after v
-
-pub ruleset book_steps = (head_room, lines_room, book_written)
+  pub left_lines : (before now : Writer) → HasRoom (book_of m) before → Writes (flat_map encoding ns) before now
+      → Left (book_of m) (flat_map line_bytes m.lines) before now
+  left_lines before now r w =
+      left_more (book_of m) (book_of m) (flat_map encoding ns) (flat_map line_bytes m.lines) before before now (left_none (book_of m) before r) head_first w
 
 -- what is written from the beginning of an output on
 pub front_written : (bytes out : List ℕ) → paste out 0 bytes (length bytes) ≡ bytes ++ drop (length bytes) out

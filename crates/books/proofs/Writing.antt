@@ -1,13 +1,11 @@
 -- What several writings one after another write. Assumes nothing.
-use Rattle.std.proofs.Common.{◌≡◌, ℕ, ◌+◌, ◌/◌, ◌%◌, ◌^◌, ◌<◌, ◌≤◌, List, [], ◌∷◌, ◌++◌, length, sym, refl, ap, ◌∙◌, arith, length-append}
+use Rattle.std.proofs.Common.{◌≡◌, ℕ, List, [], ◌∷◌, ◌++◌, length, sym, refl, ap, ◌∙◌, arith, length-append}
 use Rattle.std.proofs.Math.Seq.{paste}
 use Rattle.std.specs.List.{flat_map}
 use Rattle.std.proofs.lemmas.List.{drop_more, drop_all}
 use Rattle.std.proofs.lemmas.List.Edits.{paste_none, paste-paste, length-paste}
 use Rattle.books.specs.declared.writer.Writer.{Writer}
-use Rattle.books.specs.Number.{encoding}
 use Rattle.books.specs.Writing.{HasRoom, Writes}
-use Rattle.books.proofs.NumberWritten.{encoding_last, encoding_more}
 
 -- Of the bytes that are to be written from `before` on, `rest` are left to write at `now`.
 pub record Left (all rest : List ℕ) (before now : Writer) : Type 0 where
@@ -49,8 +47,14 @@ left_more all rest part more before now after l e s =
 pub left_all : (all : List ℕ) (before now : Writer) → Left all [] before now → Writes all before now
 left_all all before now l = l.then_all now (record { place = omega arith; output = paste_none now.out.now now.at []; lender = refl })
 
--- the steps of the loop that writes a number
-pub ruleset number_steps = (left_none, left_room, left_more, left_all, encoding_last, encoding_more)
+-- what is left is the next part
+pub rest_room : (all rest : List ℕ) (before now : Writer) → Left all rest before now → HasRoom rest now
+rest_room all rest before now l = l.room
+
+pub rest_all : (all rest : List ℕ) (before now after : Writer) → Left all rest before now → Writes rest now after → Writes all before after
+rest_all all rest before now after l w = l.then_all after w
+
+pub ruleset writing_steps = (left_none, left_room, left_more, left_all, rest_room, rest_all)
 
 -- the steps of a loop that writes the items of a list one after another, of which xs are left
 module _ {X : Type 0} (f : X → List ℕ) (all : List ℕ) (xs : List X) (before now : Writer) (l : Left all (flat_map f xs) before now) where

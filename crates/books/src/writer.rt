@@ -67,7 +67,6 @@ impl<'a> Writer<'a> {
     }
 
     // The book of a net.
-    #[tactic(auto, using(crate::proofs::BookWritten::book_steps))]
     pub fn book<N: Net>(&mut self, net: &N)
         requires { HasRoom (book_of (N.Net.meant net.now)) self.old }
         ensures { Writes (book_of (N.Net.meant net.now)) self.old self.new }
