@@ -43,12 +43,10 @@ module _ (book : List ℕ) (bytes : Bytes book) where
     where
       parts : (r : Result (ℕ × ℕ) NumberError) → number (drop p book) ≡ r → placed p r ≡ Ok (n, q) → Holds book p (n ∷ []) q
       parts (Ok x) s t =
+          let w = written_of_read (drop p book) x.0 x.1 (All-drop (λ b. b < 256) p book bytes) s in
           let v : x.0 ≡ n = ap (λ y. y.0) (ok_same t) in
           let c : p + x.1 ≡ q = ap (λ y. y.1) (ok_same t) in
-          let w = written_of_read (drop p book) x.0 x.1 (All-drop (λ b. b < 256) p book bytes) s in
-          sym (take-append-drop x.1 (drop p book))
-          ∙ ap (λ (l : List ℕ). l ++ drop x.1 (drop p book)) (w ∙ ap encoding v ∙ sym (append-nil (encoding n)))
-          ∙ ap (λ (l : List ℕ). flat_map encoding (n ∷ []) ++ l) (drop-drop x.1 p book ∙ ap (λ k. drop k book) c)
+          cc (take-append-drop x.1 (drop p book), append-nil (encoding n), drop-drop x.1 p book)
       parts (Err d) s t = cc
 
   -- a field that was read has passed its test

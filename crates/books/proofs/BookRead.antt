@@ -13,7 +13,7 @@ use Rattle.books.specs.Faults.{place_of, fault_place}
 use Rattle.books.specs.Reading.{field_at}
 use Rattle.books.specs.Judging.{Judged, passed}
 use Rattle.books.specs.Records.{record_at, records_at}
-use Rattle.books.proofs.Readings.{ok_same, is_ok, then_ok, guard_ok}
+use Rattle.books.proofs.Readings.{ok_same, ok_is, then_ok, guard_ok}
 
 -- as many records are read as there should be
 pub count_read : (left k stations : ℕ) (book : List ℕ) (p : ℕ) (ls : List Line) (q : ℕ) → records_at left k stations book p ≡ Ok (ls, q) → length ls ≡ left
@@ -49,7 +49,7 @@ pub judged : (room : ℕ) (book : List ℕ) (first behind last : Reader) (h : He
     → Ok t ≡ end_at last.book.now last.at → Judged room book h behind.at
 unfolding reading
 judged room book first behind last h u t b z r p e =
-    let head : head_at room book 0 ≡ Ok (h, behind.at) = is_ok place_of (head_at room book 0) h behind.at (cc (r.value)) (cc (r.cursor)) in
+    let head : head_at room book 0 ≡ Ok (h, behind.at) = ok_is place_of (head_at room book 0) h behind.at (cc (r.value)) (cc (r.cursor)) in
     let same : behind.book.now ≡ book = cc (r.book) in
     let all : last.book.now ≡ book = cc (p.book, same) in
     let ls = passed_ok (records_at h.lines 0 h.stations book behind.at) u last.at (cc (p.value)) (cc (p.cursor)) in

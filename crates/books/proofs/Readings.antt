@@ -1,25 +1,20 @@
 -- What the answer and the cursor of a reading tell of it. Assumes nothing.
-use Rattle.std.proofs.Common.{◌≡◌, ℕ, Bool, true, false, cond, Ok, Err, Result, refl, ap}
+use Rattle.std.proofs.Common.{◌≡◌, ℕ, Bool, true, false, cond, Ok, Err, Result, refl}
 use Rattle.books.specs.Cursor.{value_of, cursor_after}
 use Rattle.books.specs.Reading.{and_then, inside}
 
 module _ {A F : Type 0} (place : F → ℕ) where
-  pub is_ok : (r : Result (A × ℕ) F) (v : A) (q : ℕ) → Ok v ≡ value_of r → q ≡ cursor_after place r → r ≡ Ok (v, q)
-  is_ok (Ok (y, s)) v q a b = cc
-  is_ok (Err e) v q a b = cc
-
-  pub ok_then : {B : Type 0} (r : Result (A × ℕ) F) (v : A) (q : ℕ) (f : A × ℕ → Result B F)
-      → Ok v ≡ value_of r → q ≡ cursor_after place r → and_then r f ≡ f (v, q)
-  ok_then r v q f a b = ap (λ x. and_then x f) (is_ok r v q a b)
+  pub ok_is : (r : Result (A × ℕ) F) (v : A) (q : ℕ) → Ok v ≡ value_of r → q ≡ cursor_after place r → r ≡ Ok (v, q)
+  ok_is (Ok (y, s)) v q a b = cc
+  ok_is (Err e) v q a b = cc
 
   pub at_fault : (r : Result (A × ℕ) F) (e : F) → Err e ≡ value_of r → cursor_after place r ≡ place e
   at_fault (Ok x) e a = cc
   at_fault (Err d) e a = cc
 
-pub err_then : {A B F : Type 0} (r : Result (A × ℕ) F) (e : F) (f : A × ℕ → Result B F)
-    → Err e ≡ value_of r → and_then r f ≡ Err e
-err_then (Ok x) e f a = cc
-err_then (Err d) e f a = cc
+pub err_is : {A F : Type 0} (r : Result (A × ℕ) F) (e : F) → Err e ≡ value_of r → r ≡ Err e
+err_is (Ok x) e a = cc
+err_is (Err d) e a = cc
 
 pub ok_same : {A F : Type 0} {x y : A} → ◌≡◌ {A = Result A F} (Ok x) (Ok y) → x ≡ y
 ok_same e = cc

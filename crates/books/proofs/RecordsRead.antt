@@ -10,7 +10,7 @@ use Rattle.books.specs.Faults.{fault_place}
 use Rattle.books.specs.Judging.{passed}
 use Rattle.books.specs.Reading.{and_then}
 use Rattle.books.specs.Records.{record_at, records_at}
-use Rattle.books.proofs.Readings.{ok_then, err_then, at_fault, ok_same}
+use Rattle.books.proofs.Readings.{ok_is, err_is, at_fault, ok_same}
 
 abbrev Read : Type 0
 Read = Result (List Line × ℕ) RecordFault
@@ -24,7 +24,7 @@ behind_none (Ok x) = refl
 behind_none (Err e) = refl
 
 behind_more : (done : List Line) (l : Line) (r : Read) → behind done (behind (l ∷ []) r) ≡ behind (done ++ l ∷ []) r
-behind_more done l (Ok x) = ap (λ (ls : List Line). Ok (ls, x.1)) (sym (append_assoc done (l ∷ []) x.0))
+behind_more done l (Ok x) = cc (append_assoc done (l ∷ []) x.0)
 behind_more done l (Err e) = refl
 
 passed_behind : (done : List Line) (r : Read) → passed (behind done r) ≡ passed r
@@ -64,12 +64,10 @@ module _ (count stations k : ℕ) (first before after : Reader) (h : k < count) 
 
   next_ok : (l : Line) → Reads fault_place (record_at k stations) before after (Ok l)
       → left count stations k first before ≡ behind (l ∷ []) (left count stations (k + 1) first after)
-  next_ok l r =
-      next ∙ ok_then fault_place (record_at k stations before.book.now before.at) l after.at _ r.value r.cursor
-      ∙ ap (λ y. behind (l ∷ []) (records_at (count - (k + 1)) (k + 1) stations y.now after.at)) b
+  next_ok l r = cc (next, ok_is fault_place (record_at k stations before.book.now before.at) l after.at r.value r.cursor)
 
   next_err : (f : RecordFault) → Reads fault_place (record_at k stations) before after (Err f) → left count stations k first before ≡ Err f
-  next_err f r = next ∙ err_then (record_at k stations before.book.now before.at) f _ r.value
+  next_err f r = cc (next, err_is (record_at k stations before.book.now before.at) f r.value)
 
 pub judges_more : (count stations k : ℕ) (first before after : Reader) (r : Result Line RecordFault) → Judges count stations k first before → k < count
     → Reads fault_place (record_at k stations) before after r → is_ok r ≡ true → Judges count stations (k + 1) first after

@@ -92,6 +92,7 @@ impl<'a> Reader<'a> {
             BookFault::HeadLimit { place },
         )? as usize;
         if lines > room {
+            // back to the number, which is at fault
             self.at = place;
             return Err(BookFault::TableShort { place });
         }
