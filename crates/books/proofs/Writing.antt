@@ -1,11 +1,14 @@
 -- What several writings one after another write. Assumes nothing.
-use Rattle.std.proofs.Common.{◌≡◌, ℕ, List, [], ◌∷◌, ◌++◌, length, sym, refl, ap, ◌∙◌, arith, length-append}
+use Rattle.std.proofs.Common.{◌≡◌, ℕ, List, [], ◌∷◌, ◌++◌, length, set, ◌<◌, add-one, append_assoc, sym, refl, ap, ◌∙◌, arith, length-append}
 use Rattle.std.proofs.Math.Seq.{paste}
 use Rattle.std.specs.List.{flat_map}
-use Rattle.std.proofs.lemmas.List.{drop_more, drop_all}
+use Rattle.std.proofs.lemmas.List.{drop_more, drop_all, set_split}
 use Rattle.std.proofs.lemmas.List.Edits.{paste_none, paste-paste, length-paste}
 use Rattle.books.specs.declared.writer.Writer.{Writer}
 use Rattle.books.specs.Writing.{HasRoom, Writes}
+
+pub byte_written : (out : List ℕ) (at b : ℕ) → at < length out → set out at b ≡ paste out at (b ∷ []) 1
+byte_written out at b h = simp (add-one, append_assoc) (set_split out at b h)
 
 -- Of the bytes that are to be written from `before` on, `rest` are left to write at `now`.
 pub record Left (all rest : List ℕ) (before now : Writer) : Type 0 where

@@ -17,6 +17,7 @@ pub(crate) struct Writer<'a> {
 }
 
 impl<'a> Writer<'a> {
+    #[tactic(auto, using(crate::proofs::Writing::byte_written))]
     fn byte(&mut self, byte: u8)
         requires { HasRoom (byte ∷ []) self.old }
         ensures { Writes (byte ∷ []) self.old self.new }
