@@ -1,4 +1,5 @@
 // Books, lines and lattices that the tests begin with.
+use figures::open_line;
 use nets::{LatticeFees, LatticeNet, Line, MAX_FEE, MAX_LOSS, Refusal};
 
 // A book of 512 stations and two lines, in which most numbers have several bytes.
@@ -38,11 +39,8 @@ pub(crate) const LOSS: u32 = 300;
 
 pub(crate) fn line(from: u32, to: u32, fee: u32, loss: u32, open: bool) -> Line {
     Line {
-        from,
-        to,
-        fee,
-        loss,
         open,
+        ..open_line(from, to, fee, loss)
     }
 }
 
