@@ -3,7 +3,7 @@ use Rattle.std.proofs.Common.{◌≡◌, ℕ, zero, suc, ◌+◌, ◌-◌, ◌*�
 use Rattle.std.proofs.lemmas.List.{at_drop_more, at_drop_all}
 use Rattle.std.proofs.lemmas.Bool.Decides.{nat_tests}
 use Rattle.books.specs.declared.number.NumberError.{NumberError}
-use Rattle.books.specs.declared.number.NumberError.TheVariants.{Cut, TooLarge, Padded}
+use Rattle.books.specs.declared.number.NumberError.TheVariants.{Cut}
 use Rattle.books.specs.Number.{number, number_from}
 
 -- k groups of the number are read, they stand for `low`, and the next counts `scale` times
@@ -26,14 +26,8 @@ module _ (bs : List ℕ) (k low s : ℕ) (f : Front bs k low s) where
   at_end h = sym (f.rest ∙ at_drop_all (number_from k low) bs k h)
 
   module _ (h : k < length bs) where
-    next : number bs ≡ number_from k low (get_or bs k 0 ∷ drop (k + 1) bs)
+    pub next : number bs ≡ number_from k low (get_or bs k 0 ∷ drop (k + 1) bs)
     next = f.rest ∙ at_drop_more (number_from k low) bs k 0 h
-
-    pub at_large : k ≡ 4 → 15 < get_or bs k 0 → Err TooLarge ≡ number bs
-    at_large p q = let e = next in grind (arith, nat_tests)
-
-    pub at_padded : 0 < k → get_or bs k 0 ≡ 0 → Err Padded ≡ number bs
-    at_padded p q = let e = next in grind (arith, nat_tests)
 
     module _ (small : (k ≡ 4) → get_or bs k 0 ≤ 15) where
       -- the last group
@@ -43,9 +37,6 @@ module _ (bs : List ℕ) (k low s : ℕ) (f : Front bs k low s) where
             | inl w ↦ let m = mul-le-mul_right s (small w.0) in omega (arith, w.1)
             | inr w ↦ let b127 : get_or bs k 0 ≤ 127 = omega arith in let m = mul-le-mul_right s b127 in omega (arith, w.1)
           ]
-
-      pub at_last : get_or bs k 0 < 128 → (0 < k → get_or bs k 0 ≡ 0 → ⊥) → Ok (low + get_or bs k 0 * s, k + 1) ≡ number bs
-      at_last q r = let e = next in let p = f.power in rw p (grind (arith, nat_tests))
 
       -- any group but the last
       pub group_fits : 128 ≤ get_or bs k 0 → get_or bs k 0 < 256 → (low + (get_or bs k 0 - 128) * s < s * 128) × (s * 128 < 2 ^ 32)
@@ -64,19 +55,16 @@ module _ (bs : List ℕ) (k low s : ℕ) (f : Front bs k low s) where
       }
 
 -- the steps of the loop that reads a number
-pub ruleset number_steps = (at_end, at_large, at_padded, last_fits, at_last, group_fits, at_more)
+pub ruleset number_steps = (at_end, next, last_fits, group_fits, at_more)
 
 -- a number that is read lies within its bytes
-pub count_within_from : (k low v n : ℕ) (bs : List ℕ) → number_from k low bs ≡ Ok (v, n) → n ≤ k + length bs
-count_within_from k low v n [] e = grind arith
-count_within_from k low v n (b ∷ bs) e =
-    let more = count_within_from (k + 1) (low + (b - 128) * 128 ^ k) v n bs in grind (arith, nat_tests)
-
-pub count_within : (v n : ℕ) (bs : List ℕ) → number bs ≡ Ok (v, n) → n ≤ length bs
-count_within v n bs e = omega (arith, count_within_from 0 0 v n bs e)
+count_within : (k low v n : ℕ) (bs : List ℕ) → number_from k low bs ≡ Ok (v, n) → n ≤ k + length bs
+count_within k low v n [] e = grind arith
+count_within k low v n (b ∷ bs) e =
+    let more = count_within (k + 1) (low + (b - 128) * 128 ^ k) v n bs in grind (arith, nat_tests)
 
 -- the place behind a number that is read
 pub place_fits : (book : List ℕ) (at : ℕ) (r : Result (ℕ × ℕ) NumberError) (x : ℕ × ℕ) → length book < 2 ^ 63 → at < 2 ^ 64
     → r ≡ number (drop at book) → r ≡ Ok x → at + x.1 < 2 ^ 64
 place_fits book at r x short low e f =
-    let n = count_within x.0 x.1 (drop at book) (sym e ∙ f) in omega (arith, length-drop at book)
+    let n = count_within 0 0 x.0 x.1 (drop at book) (sym e ∙ f) in omega (arith, length-drop at book)
