@@ -20,7 +20,7 @@ use Rattle.books.specs.Number.{number, encoding}
 use Rattle.books.specs.OneBook.{Bytes, Accepted}
 use Rattle.books.specs.Reading.{inside, placed, number_at, field_at}
 use Rattle.books.specs.Judging.{Judged}
-use Rattle.books.specs.Records.{station_at, limited_at, ends_at, open_at, terms_at, fields_at, in_line, record_at, records_at, line_numbers}
+use Rattle.books.specs.Records.{station_at, limited_at, ends_at, open_at, fields_at, in_line, record_at, records_at, line_numbers}
 use Rattle.books.proofs.BookRead.{count_read}
 use Rattle.books.proofs.NumberTrips.{written_of_read}
 use Rattle.books.proofs.Readings.{ok_same, then_ok, inside_ok, guard_ok}
@@ -59,51 +59,42 @@ module _ (book : List ℕ) (bytes : Bytes book) where
         ap test (sym (ap (λ y. y.0) g.1)) ∙ g.0,
       ))
 
-  ends_back : (stations p : ℕ) (x : (ℕ × ℕ) × ℕ) → ends_at stations book p ≡ Ok x
-      → Holds book p (x.0.0 ∷ x.0.1 ∷ []) x.1 × (x.0.0 < stations) × (x.0.1 < stations)
-  ends_back stations p x e =
-      then_ok (station_at stations book p) _ x e (λ from f g.
-      then_ok (station_at stations book from.1) _ x g (λ to t u.
-      let a = field_back Number (λ n. ltb n stations) Station p from.0 from.1 f in
-      let b = field_back Number (λ n. ltb n stations) Station from.1 to.0 to.1 t in
-      rw (← ok_same u) (
-        holds_more book p from.1 to.1 (from.0 ∷ []) (to.0 ∷ []) a.0 b.0,
-        ltb-true from.0 stations a.1,
-        ltb-true to.0 stations b.1,
-      )))
-
   open_back : (p : ℕ) (x : Bool × ℕ) → open_at book p ≡ Ok x → Holds book p (cond x.0 1 0 ∷ []) x.1
   open_back p x e =
       then_ok (limited_at 1 book p) _ x e (λ n f g.
       let a = field_back Number (λ n. leb n 1) Limit p n.0 n.1 f in
       rw (← ok_same g) (a.0 ∙ ap (λ m. flat_map encoding (m ∷ []) ++ drop n.1 book) (bit_is n.0 (leb-true n.0 1 a.1))))
 
-  terms_back : (p : ℕ) (x : (ℕ × ℕ × Bool) × ℕ) → terms_at book p ≡ Ok x
-      → Holds book p (x.0.0 ∷ x.0.1 ∷ cond x.0.2 1 0 ∷ []) x.1 × (x.0.0 ≤ max_fee) × (x.0.1 ≤ max_loss)
-  terms_back p x e =
-      then_ok (limited_at max_fee book p) _ x e (λ fee f g.
-      then_ok (limited_at max_loss book fee.1) _ x g (λ loss l m.
-      then_ok (open_at book loss.1) _ x m (λ standing s t.
-      let a = field_back Number (λ n. leb n max_fee) Limit p fee.0 fee.1 f in
-      let b = field_back Number (λ n. leb n max_loss) Limit fee.1 loss.0 loss.1 l in
-      rw (← ok_same t) (
-        holds_more book p fee.1 standing.1 (fee.0 ∷ []) (loss.0 ∷ cond standing.0 1 0 ∷ []) a.0
-            (holds_more book fee.1 loss.1 standing.1 (loss.0 ∷ []) (cond standing.0 1 0 ∷ []) b.0 (open_back loss.1 standing s)),
-        leb-true fee.0 max_fee a.1,
-        leb-true loss.0 max_loss b.1,
-      ))))
+  ends_back : (stations p : ℕ) (x : (ℕ × ℕ) × ℕ) → ends_at stations book p ≡ Ok x
+      → Holds book p (x.0.0 ∷ x.0.1 ∷ []) x.1 × (x.0.0 < stations) × (x.0.1 < stations)
+  ends_back stations p x e =
+      then_ok (station_at stations book p) _ x e (λ from a b.
+      then_ok (station_at stations book from.1) _ x b (λ to c d.
+      let r = field_back Number (λ n. ltb n stations) Station p from.0 from.1 a in
+      let s = field_back Number (λ n. ltb n stations) Station from.1 to.0 to.1 c in
+      rw (← ok_same d) (
+        holds_more book p from.1 to.1 (from.0 ∷ []) (to.0 ∷ []) r.0 s.0,
+        ltb-true from.0 stations r.1,
+        ltb-true to.0 stations s.1,
+      )))
 
   fields_back : (stations p : ℕ) (x : Line × ℕ) → fields_at stations book p ≡ Ok x → Holds book p (line_numbers x.0) x.1 × LineLimits stations x.0
   unfolding fields_at
   fields_back stations p x e =
       then_ok (ends_at stations book p) _ x e (λ ends a b.
-      then_ok (terms_at book ends.1) _ x b (λ terms v w.
-      let f = ends_back stations p ends a in
-      let t = terms_back ends.1 terms v in
-      rw (← ok_same w) (
-        holds_more book p ends.1 terms.1 (ends.0.0 ∷ ends.0.1 ∷ []) (terms.0.0 ∷ terms.0.1 ∷ cond terms.0.2 1 0 ∷ []) f.0 t.0,
-        record { from = f.1; to = f.2; fee = t.1; loss = t.2 },
-      )))
+      then_ok (limited_at max_fee book ends.1) _ x b (λ fee c d.
+      then_ok (limited_at max_loss book fee.1) _ x d (λ loss f g.
+      then_ok (open_at book loss.1) _ x g (λ standing h i.
+      let bit : ℕ = cond standing.0 1 0 in
+      let r = ends_back stations p ends a in
+      let s = field_back Number (λ n. leb n max_fee) Limit ends.1 fee.0 fee.1 c in
+      let t = field_back Number (λ n. leb n max_loss) Limit fee.1 loss.0 loss.1 f in
+      rw (← ok_same i) (
+        holds_more book p ends.1 standing.1 (ends.0.0 ∷ ends.0.1 ∷ []) (fee.0 ∷ loss.0 ∷ bit ∷ []) r.0
+            (holds_more book ends.1 fee.1 standing.1 (fee.0 ∷ []) (loss.0 ∷ bit ∷ []) s.0
+            (holds_more book fee.1 loss.1 standing.1 (loss.0 ∷ []) (bit ∷ []) t.0 (open_back loss.1 standing h))),
+        record { from = r.1; to = r.2; fee = leb-true fee.0 max_fee s.1; loss = leb-true loss.0 max_loss t.1 },
+      )))))
 
   records_back : (left k stations p : ℕ) (x : List Line × ℕ) → records_at left k stations book p ≡ Ok x
       → Holds book p (flat_map line_numbers x.0) x.1 × AllByRecursion (LineLimits stations) x.0

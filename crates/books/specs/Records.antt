@@ -28,20 +28,14 @@ ends_at stations book p =
 abbrev pub open_at : List ℕ → ℕ → Result (Bool × ℕ) RecordError
 open_at book p = and_then (limited_at 1 book p) (λ n. Ok (n.0 == 1, n.1))
 
--- The other three numbers of a record: fee, loss, and whether it is open.
-abbrev pub terms_at : List ℕ → ℕ → Result ((ℕ × ℕ × Bool) × ℕ) RecordError
-terms_at book p =
-    and_then (limited_at max_fee book p) (λ fee.
-    and_then (limited_at max_loss book fee.1) (λ loss.
-    and_then (open_at book loss.1) (λ standing.
-    Ok ((fee.0, loss.0, standing.0), standing.1))))
-
 -- The record at place p: from, to, fee, loss, and 1 for open or 0 for shut.
 unfoldable pub fields_at : (stations : ℕ) → List ℕ → ℕ → Result (Line × ℕ) RecordError
 fields_at stations book p =
     and_then (ends_at stations book p) (λ ends.
-    and_then (terms_at book ends.1) (λ terms.
-    Ok (record { from = ends.0.0; to = ends.0.1; fee = terms.0.0; loss = terms.0.1; «open» = terms.0.2 }, terms.1)))
+    and_then (limited_at max_fee book ends.1) (λ fee.
+    and_then (limited_at max_loss book fee.1) (λ loss.
+    and_then (open_at book loss.1) (λ standing.
+    Ok (record { from = ends.0.0; to = ends.0.1; fee = fee.0; loss = loss.0; «open» = standing.0 }, standing.1)))))
 
 -- A record's fault, with the line being read.
 abbrev pub in_line : ℕ → RecordError → RecordFault

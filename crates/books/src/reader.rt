@@ -5,7 +5,7 @@ ghost use Rattle.books.specs.Faults.{record_place, fault_place, place_of};
 ghost use Rattle.books.specs.Reading.{number_at};
 ghost use Rattle.books.specs.Cursor.{Reads, Takes};
 ghost use Rattle.books.specs.Book.{edition_at, stations_at, lines_at, head_at, end_at};
-ghost use Rattle.books.specs.Records.{station_at, limited_at, ends_at, open_at, terms_at, fields_at, record_at};
+ghost use Rattle.books.specs.Records.{station_at, limited_at, ends_at, open_at, fields_at, record_at};
 
 use crate::fault::{BookFault, NumberFault, RecordError, RecordFault};
 use crate::head::Head;
@@ -105,9 +105,10 @@ impl<'a> Reader<'a> {
         ensures { Reads place_of (head_at room) self.old self.new result }
     {
         self.edition()?;
-        let stations = self.stations()?;
-        let lines = self.lines(room)?;
-        Ok(Head { stations, lines })
+        Ok(Head {
+            stations: self.stations()?,
+            lines: self.lines(room)?,
+        })
     }
 
     // Refuses where bytes are left.
@@ -135,13 +136,11 @@ impl<'a> Reader<'a> {
         self.number(|n| n <= most, RecordError::Limit { place: self.at })
     }
 
-    // From and to.
+    // From and to: a method of its own, since all five numbers in one leave the check no margin.
     fn ends(&mut self, stations: usize) -> Result<(u32, u32), RecordError>
         ensures { Reads record_place (ends_at stations) self.old self.new result }
     {
-        let from = self.station(stations)?;
-        let to = self.station(stations)?;
-        Ok((from, to))
+        Ok((self.station(stations)?, self.station(stations)?))
     }
 
     // Whether the line is open.
@@ -151,28 +150,17 @@ impl<'a> Reader<'a> {
         Ok(self.limited(1)? == 1)
     }
 
-    // Fee, loss, and whether the line is open.
-    fn terms(&mut self) -> Result<(u32, u32, bool), RecordError>
-        ensures { Reads record_place terms_at self.old self.new result }
-    {
-        let fee = self.limited(MAX_FEE)?;
-        let loss = self.limited(MAX_LOSS)?;
-        let open = self.open()?;
-        Ok((fee, loss, open))
-    }
-
     #[tactic(auto, unfolding(crate::specs::Records::fields_at))]
     fn fields(&mut self, stations: usize) -> Result<Line, RecordError>
         ensures { Reads record_place (fields_at stations) self.old self.new result }
     {
         let (from, to) = self.ends(stations)?;
-        let (fee, loss, open) = self.terms()?;
         Ok(Line {
             from,
             to,
-            fee,
-            loss,
-            open,
+            fee: self.limited(MAX_FEE)?,
+            loss: self.limited(MAX_LOSS)?,
+            open: self.open()?,
         })
     }
 
