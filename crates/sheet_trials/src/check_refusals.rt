@@ -21,6 +21,6 @@ fn a_table_without_one_row_for_each_station(rt: HostRuntime) {
     let net = ListNet::new(5, &mut records);
     let none: [Row<u32>; 0] = [];
     assert_eq!(rt; judged::<Fees>(&net, 0, &none), Err(11));
-    assert_eq!(rt; judged::<Fees>(&net, 4, &fee_rows()[0..4]), Err(11));
+    assert_eq!(rt; judged::<Fees>(&net, 4, &fee_rows()[..4]), Err(11));
     assert_eq!(rt; judged::<Fees>(&net, 0, &[row(0, None); 6]), Err(11));
 }

@@ -56,20 +56,17 @@ fn one_station(rt: HostRuntime) {
     assert_eq!(rt; judged::<Fees>(&net, 0, &[row(NONE, None)]), Ok(false));
 }
 
-// Rows 0 1 2 and 3 4 5, with a fee for each direction.
-fn lattice() -> Result<LatticeNet, Fail> {
-    let fees = LatticeFees {
-        east: 10,
-        south: 200,
-        west: 70_000,
-        north: 16_777_215,
-    };
-    Ok(LatticeNet::new(2, 3, fees, 300)?)
-}
+// The fees of a lattice of two rows, stations 0 1 2 and 3 4 5.
+const FEES: LatticeFees = LatticeFees {
+    east: 10,
+    south: 200,
+    west: 70_000,
+    north: 16_777_215,
+};
 
 #[test]
 fn a_lattice(rt: HostRuntime) -> Result<(), Fail> {
-    let net = lattice()?;
+    let net = LatticeNet::new(2, 3, FEES, 300)?;
     let from_0 = [
         row(0, None),
         row(10, Some(0)),
@@ -94,6 +91,7 @@ fn a_lattice(rt: HostRuntime) -> Result<(), Fail> {
 
 #[test]
 fn a_lattice_by_losses(rt: HostRuntime) -> Result<(), Fail> {
+    let net = LatticeNet::new(2, 3, FEES, 300)?;
     let rows = [
         row(300, Some(6)),
         row(0, None),
@@ -102,7 +100,7 @@ fn a_lattice_by_losses(rt: HostRuntime) -> Result<(), Fail> {
         row(300, Some(5)),
         row(300, Some(16)),
     ];
-    assert_eq!(rt; judged::<Losses>(&lattice()?, 1, &rows), Ok(true));
+    assert_eq!(rt; judged::<Losses>(&net, 1, &rows), Ok(true));
     Ok(())
 }
 

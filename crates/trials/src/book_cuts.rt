@@ -26,7 +26,7 @@ fn cut_at_every_byte(rt: HostRuntime) -> Result<(), Fail> {
     let book = five_line_book();
     for cut in 0..book.len() {
         let line = cut.checked_sub(3).map(|into| into / 5);
-        expect_fault(&rt, rt.alloc(), 5, &book[0..cut], (1, cut, Number, line))?;
+        expect_fault(&rt, rt.alloc(), 5, &book[..cut], (1, cut, Number, line))?;
     }
     Ok(())
 }
@@ -40,7 +40,7 @@ fn wide_numbers_cut_at_every_byte(rt: HostRuntime) -> Result<(), Fail> {
             _ => Some(1),
         };
         let want = (1, start_before(cut), Number, line);
-        expect_fault(&rt, rt.alloc(), 2, &WIDE[0..cut], want)?;
+        expect_fault(&rt, rt.alloc(), 2, &WIDE[..cut], want)?;
     }
     Ok(())
 }
