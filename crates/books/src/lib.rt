@@ -4,6 +4,7 @@
 mod fault;
 mod head;
 mod number;
+mod parts;
 mod read;
 mod reader;
 mod write;

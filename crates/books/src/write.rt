@@ -1,33 +1,15 @@
 // The book of a net, written to the front of an output.
 ghost use Rattle.std.specs.Prelude.{◌≡◌, ◌+◌, ◌≤◌, ◌++◌, length, take, drop, IfOk};
 ghost use Rattle.std.specs.List.{flat_map};
-ghost use Rattle.books.specs.Book.{head_numbers, book_of, length_answer, output_after};
+ghost use Rattle.books.specs.Book.{book_of, length_answer, output_after};
 ghost use Rattle.books.specs.Number.{encoding};
 ghost use Rattle.books.specs.OneBook.{ReadsAs, OneBook};
-ghost use Rattle.books.specs.Records.{line_numbers, line_bytes};
+ghost use Rattle.books.specs.Records.{line_bytes};
 
 use crate::number::number_length;
-use crate::reader::EDITION;
+use crate::parts::{head_numbers, line_numbers};
 use crate::writer::Writer;
 use nets::{Line, Lines, Net, Refusal};
-
-pub(crate) fn line_numbers(line: &Line) -> [u32; 5]
-    ensures { result ≡ line_numbers line.now }
-{
-    [
-        line.from,
-        line.to,
-        line.fee,
-        line.loss,
-        u32::from(line.open),
-    ]
-}
-
-pub(crate) fn head_numbers<N: Net>(net: &N) -> [u32; 3]
-    ensures { result ≡ head_numbers (N.Net.meant net.now) }
-{
-    [EDITION, net.stations() as u32, net.line_count() as u32]
-}
 
 // How many bytes a few numbers take.
 fn numbers_length(numbers: &[u32]) -> usize

@@ -6,7 +6,7 @@ ghost use Rattle.books.specs.Number.{encoding};
 ghost use Rattle.books.specs.Records.{line_bytes};
 ghost use Rattle.books.specs.Writing.{HasRoom, Writes};
 
-use crate::write::{head_numbers, line_numbers};
+use crate::parts::{head_numbers, line_numbers};
 use nets::{Line, Lines, Net};
 
 // The output, and the place in it of the next byte to be written.
