@@ -1,9 +1,8 @@
 -- What a table of records means: its lines, its edits, and its judging. Assumes nothing.
-use Rattle.std.proofs.Common.{◌≡◌, ℕ, ◌<◌, ◌≤◌, min, Bool, true, List, [], ◌∷◌, map, length, get_or, take, set, Some, None, Decides, sym, refl, ap, ◌∙◌, arith, length-take}
+use Rattle.std.proofs.Common.{◌≡◌, ℕ, zero, suc, ◌<◌, ◌≤◌, min, Bool, true, List, [], ◌∷◌, map, length, get_or, take, set, Some, None, Decides, sym, refl, ap, ◌∙◌, arith, length-take}
 use Rattle.std.proofs.lemmas.List.{length-map}
 use Rattle.std.specs.List.{AllByRecursion, slice_get}
 use Rattle.std.proofs.lemmas.List.{map-set, get_or-map, get_or-take, set-get_or, take_all}
-use Rattle.std.proofs.Math.Seq.{take-set-lt}
 use Rattle.std.proofs.lemmas.Option.{slice_get-get_or, slice_get_past}
 use Rattle.std.proofs.lemmas.Bool.{cond-true, and_from, and_parts, le-leb, leb-true}
 use Rattle.std.proofs.ByRecursion.{Decides-by_and}
@@ -39,19 +38,30 @@ line_limits n records k l e = All-slice_get (LineLimits (stations_of n)) (listed
 seen_within : (n : ℕ) (l : Line) → LineLimits n l → seen n l ≡ l
 seen_within n l h = cond-true (line_fits n l) l blank_line (fits_from_limits n l h)
 
-set-listed : (n : ℕ) (records : List Line) (k : ℕ) (x : Line) → k < max_lines → seen (stations_of n) x ≡ x → (listed n (set records k x)).lines ≡ set (listed n records).lines k x
-set-listed n records k x h e =
-    ap (map (seen (stations_of n))) (take-set-lt max_lines records k x h) ∙ map-set (seen (stations_of n)) (take max_lines records) k x ∙ ap (set (listed n records).lines k) e
+take-set : (m : ℕ) (records : List Line) (k : ℕ) (x : Line) → take m (set records k x) ≡ set (take m records) k x
+take-set zero records k x = refl
+take-set (suc m) [] k x = refl
+take-set (suc m) (l ∷ ls) zero x = refl
+take-set (suc m) (l ∷ ls) (suc k) x = ap (λ t. l ∷ t) (take-set m ls k x)
 
--- record k written as what f makes of it as it was read, where f keeps within the limits: the net is changed by f at line k
-pub listed_rewritten : (n : ℕ) (records : List Line) (k : ℕ) (x : Line) (f : Line → Line) → k < length (listed n records).lines → x ≡ f (seen (stations_of n) (get_or records k blank_line)) → ((l : Line) → LineLimits (stations_of n) l → LineLimits (stations_of n) (f l)) → listed n (set records k x) ≡ changed (listed n records) k f
-listed_rewritten n records k x f i q keeps =
+set-listed : (n : ℕ) (records : List Line) (k : ℕ) (x : Line) → seen (stations_of n) x ≡ x → (listed n (set records k x)).lines ≡ set (listed n records).lines k x
+set-listed n records k x e =
+    ap (map (seen (stations_of n))) (take-set max_lines records k x) ∙ map-set (seen (stations_of n)) (take max_lines records) k x ∙ ap (set (listed n records).lines k) e
+
+-- record k written as line k changed by f, within the limits: the net is changed by f at line k
+pub listed_rewritten : (n : ℕ) (records : List Line) (k : ℕ) (l x : Line) (f : Line → Line) → slice_get (listed n records).lines k ≡ Some l → x ≡ f l → LineLimits (stations_of n) (f l) → listed n (set records k x) ≡ changed (listed n records) k f
+listed_rewritten n records k l x f e q h =
+    ap (λ y. listed n (set records k y)) q
+    ∙ ap (as_given (stations_of n)) (set-listed n records k (f l) (seen_within (stations_of n) (f l) h))
+    ∙ changed_some (listed n records) k f l e
+
+-- the same of the record as it was read, where f keeps within the limits
+pub record_rewritten : (n : ℕ) (records : List Line) (k : ℕ) (x : Line) (f : Line → Line) → k < length (listed n records).lines → x ≡ f (seen (stations_of n) (get_or records k blank_line)) → ((l : Line) → LineLimits (stations_of n) l → LineLimits (stations_of n) (f l)) → listed n (set records k x) ≡ changed (listed n records) k f
+record_rewritten n records k x f i q keeps =
     let l = seen (stations_of n) (get_or records k blank_line) in
     let h = length-listed n records in
     let e = slice_get-listed n records k blank_line (omega arith) in
-    ap (λ y. listed n (set records k y)) q
-    ∙ ap (as_given (stations_of n)) (set-listed n records k (f l) (omega arith) (seen_within (stations_of n) (f l) (keeps l (line_limits n records k l e))))
-    ∙ changed_some (listed n records) k f l e
+    listed_rewritten n records k l x f e q (keeps l (line_limits n records k l e))
 
 -- a line's number is that of a record which is read
 pub in_table : (n : ℕ) (records : List Line) (k : ℕ) → k < length (listed n records).lines → (k < length records) × (k < max_lines)

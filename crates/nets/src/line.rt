@@ -27,7 +27,7 @@ pub const BLANK_LINE: Line = Line {
 pub(crate) fn price_fits(fee: u32, loss: u32) -> bool
     ensures { result ≡ price_fits fee loss }
 {
-    (fee <= MAX_FEE) & (loss <= MAX_LOSS)
+    fee <= MAX_FEE && loss <= MAX_LOSS
 }
 
 impl Line {
@@ -39,9 +39,9 @@ impl Line {
     pub(crate) fn fits(self, stations: usize) -> bool
         ensures { result ≡ line_fits stations self }
     {
-        ((self.from as usize) < stations)
-            & ((self.to as usize) < stations)
-            & price_fits(self.fee, self.loss)
+        (self.from as usize) < stations
+            && (self.to as usize) < stations
+            && price_fits(self.fee, self.loss)
     }
 
     // The line as a net of so many stations reads it.

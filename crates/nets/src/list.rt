@@ -78,11 +78,8 @@ impl<'a> Net for ListNet<'a> {
     }
 
     fn line(&self, k: usize) -> Option<Line> {
-        if k < self.line_count() {
-            Some(self.records[k].read(self.stations()))
-        } else {
-            None
-        }
+        let record = self.records[..self.line_count()].get(k)?;
+        Some(record.read(self.stations()))
     }
 }
 
@@ -91,13 +88,17 @@ impl<'a> EditableNet for ListNet<'a> {
 
     fn set_price(&mut self, k: usize, fee: u32, loss: u32) -> Result<(), Refusal> {
         judge_price(self, k, fee, loss)?;
-        self.records[k] = self.records[k].read(self.stations()).with_price(fee, loss);
+        let stations = self.stations();
+        let record = &mut self.records[k];
+        *record = record.read(stations).with_price(fee, loss);
         Ok(())
     }
 
     fn set_open(&mut self, k: usize, open: bool) -> Result<(), Refusal> {
         judge_open(self, k)?;
-        self.records[k] = self.records[k].read(self.stations()).with_open(open);
+        let stations = self.stations();
+        let record = &mut self.records[k];
+        *record = record.read(stations).with_open(open);
         Ok(())
     }
 }

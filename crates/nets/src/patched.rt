@@ -117,13 +117,15 @@ impl<N: Net> EditableNet for PatchedNet<N> {
 
     fn set_price(&mut self, k: usize, fee: u32, loss: u32) -> Result<(), Refusal> {
         judge_price(self, k, fee, loss)?;
-        self.table.changes[k] = self.table.changes[k].with_price(fee, loss);
+        let change = &mut self.table.changes[k];
+        *change = change.with_price(fee, loss);
         Ok(())
     }
 
     fn set_open(&mut self, k: usize, open: bool) -> Result<(), Refusal> {
         judge_open(self, k)?;
-        self.table.changes[k] = self.table.changes[k].with_open(open);
+        let change = &mut self.table.changes[k];
+        *change = change.with_open(open);
         Ok(())
     }
 }

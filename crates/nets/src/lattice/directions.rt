@@ -14,11 +14,11 @@ pub(super) enum Direction {
     North,
 }
 
-impl Direction {
-    // The direction of line 4s + d. No `TryFrom`: every number of a line has a direction, and none is refused.
-    pub(super) fn from_number(d: usize) -> Direction
-        ensures { result ≡ direction_of d }
-    {
+// The direction of line 4s + d, by d.
+impl From<usize> for Direction {
+    ghost from_gives = { λ d r. r ≡ direction_of d };
+
+    fn from(d: usize) -> Direction {
         match d {
             0 => Direction::East,
             1 => Direction::South,
@@ -42,10 +42,10 @@ impl LatticeFees {
     pub(super) fn fit(self) -> bool
         ensures { result ≡ fees_fit self }
     {
-        (self.east <= MAX_FEE)
-            & (self.south <= MAX_FEE)
-            & (self.west <= MAX_FEE)
-            & (self.north <= MAX_FEE)
+        self.east <= MAX_FEE
+            && self.south <= MAX_FEE
+            && self.west <= MAX_FEE
+            && self.north <= MAX_FEE
     }
 
     // The fee in a direction.

@@ -23,7 +23,7 @@ fn size_fits(rows: usize, columns: usize) -> bool
 fn lattice_fits(rows: usize, columns: usize, fees: LatticeFees, loss: u32) -> bool
     ensures { result ≡ lattice_fits rows columns fees loss }
 {
-    size_fits(rows, columns) & fees.fit() & (loss <= MAX_LOSS)
+    size_fits(rows, columns) && fees.fit() && loss <= MAX_LOSS
 }
 
 // How many lines begin at so many stations.
@@ -103,7 +103,7 @@ impl Net for LatticeNet {
             return None;
         }
         let from = k / DIRECTIONS;
-        let d = Direction::from_number(k % DIRECTIONS);
+        let d = Direction::from(k % DIRECTIONS);
         let beside = self.beside(from, d);
         Some(Line {
             from: from as u32,

@@ -18,12 +18,6 @@ offset_bounds-self-k g c = let net = c.args.self.now in let h = in_table net.tab
 pub bounds-self-k : goal.bounds-self-k
 bounds-self-k g c = let net = c.args.self.now in (in_table net.table.changes (g.N.Net.meant net.net) c.args.k (g.N.Net.sound net.net) (price_accepted (patched net.table.changes (g.N.Net.meant net.net)) c.args.k c.args.fee c.args.loss _ c.in_ok-judge_price.ensures).0).0
 
-pub offset_bounds-self-k-2 : goal.offset_bounds-self-k-2
-offset_bounds-self-k-2 g c = let net = c.args.self.now in let h = in_table net.table.changes (g.N.Net.meant net.net) c.args.k (g.N.Net.sound net.net) (price_accepted (patched net.table.changes (g.N.Net.meant net.net)) c.args.k c.args.fee c.args.loss _ c.in_ok-judge_price.ensures).0 in record { fits = omega (arith, h.0) }
-
-pub bounds-self-k-2 : goal.bounds-self-k-2
-bounds-self-k-2 g c = let net = c.args.self.now in (in_table net.table.changes (g.N.Net.meant net.net) c.args.k (g.N.Net.sound net.net) (price_accepted (patched net.table.changes (g.N.Net.meant net.net)) c.args.k c.args.fee c.args.loss _ c.in_ok-judge_price.ensures).0).0
-
 pub returns-clause-after : goal.returns-clause-after
 returns-clause-after g c =
     let net = c.args.self.now in
