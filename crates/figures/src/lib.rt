@@ -5,13 +5,23 @@ ghost use Rattle.std.specs.Prelude.{◌≡◌};
 ghost use Rattle.figures.specs.Figures.{Figures, SheetFigures};
 ghost use Rattle.figures.specs.FiveLines.{open_line, five_lines, five_line_book};
 
-use nets::Line;
+use nets::{LatticeFees, Line};
 
 // A theorem: the definitions that the library's contracts cite give the worked figures.
 pub fn figures_hold()
     ensures books { Figures }
     ensures sheets { SheetFigures }
 {}
+
+// The fees and the loss of the lattices that tests begin with.
+pub const LATTICE_FEES: LatticeFees = LatticeFees {
+    east: 10,
+    south: 200,
+    west: 70_000,
+    north: 16_777_215,
+};
+
+pub const LATTICE_LOSS: u32 = 300;
 
 // An open line.
 pub fn open_line(from: u32, to: u32, fee: u32, loss: u32) -> Line

@@ -7,7 +7,7 @@ ghost use Rattle.random.specs.Random.{next};
 // A linear congruential generator.
 #[derive(Drop)]
 pub struct Random {
-    pub state: u32,
+    state: u32,
 }
 
 impl Random {

@@ -1,6 +1,7 @@
 // Fees and losses as costs.
 use crate::samples::NONE;
 use costs::{CostKind, Fees, Losses, line_cost};
+use figures::open_line;
 use nets::Line;
 
 #[test]
@@ -63,13 +64,7 @@ fn costs_are_in_the_order_of_numbers(rt: HostRuntime) {
 
 #[test]
 fn a_line_costs_its_fee_or_its_loss(rt: HostRuntime) {
-    let open = Line {
-        from: 1,
-        to: 2,
-        fee: 30,
-        loss: 4,
-        open: true,
-    };
+    let open = open_line(1, 2, 30, 4);
     assert_eq!(rt; <Fees as CostKind>::of_price(30, 4), 30);
     assert_eq!(rt; <Losses as CostKind>::of_price(30, 4), 4);
     assert_eq!(rt; line_cost::<Fees>(open), 30);
@@ -79,11 +74,8 @@ fn a_line_costs_its_fee_or_its_loss(rt: HostRuntime) {
 #[test]
 fn a_shut_line_costs_none(rt: HostRuntime) {
     let shut = Line {
-        from: 1,
-        to: 2,
-        fee: 0,
-        loss: 0,
         open: false,
+        ..open_line(1, 2, 0, 0)
     };
     assert_eq!(rt; line_cost::<Fees>(shut), NONE);
     assert_eq!(rt; line_cost::<Losses>(shut), NONE);

@@ -1,8 +1,7 @@
 // Random nets of many shapes.
 use nets::Line;
 use random::Random;
-use std::alloc::Global;
-use std::test::Fail;
+use std::alloc::{AllocError, Global};
 
 // How many stations and lines, below which number fees and losses are drawn, and how many lines of eight are shut.
 #[derive(Clone, Copy)]
@@ -23,17 +22,18 @@ impl Shape {
         }
     }
 
-    pub(crate) fn records(&self, heap: Global, random: &mut Random) -> Result<Vec<Line>, Fail> {
-        let mut records = Vec::new(heap);
-        for _ in 0..self.lines {
-            records.push(Line {
-                from: random.below(self.stations),
-                to: random.below(self.stations),
-                fee: random.below(self.prices),
-                loss: random.below(self.prices),
-                open: random.below(8) >= self.shut,
-            })?;
-        }
-        Ok(records)
+    pub(crate) fn records(
+        &self,
+        heap: Global,
+        random: &mut Random,
+    ) -> Result<Vec<Line>, AllocError> {
+        let line = |_| Line {
+            from: random.below(self.stations),
+            to: random.below(self.stations),
+            fee: random.below(self.prices),
+            loss: random.below(self.prices),
+            open: random.below(8) >= self.shut,
+        };
+        (0..self.lines).map(line).collect(heap)
     }
 }

@@ -6,7 +6,7 @@ use costs::{CostKind, Fees, Losses};
 use nets::{ListNet, Net};
 use random::Random;
 use sheets::Row;
-use std::alloc::Global;
+use std::alloc::AllocGlobal;
 use std::process::Abort;
 use std::test::Fail;
 
@@ -34,12 +34,11 @@ fn other_rows(right: Row<u32>) -> [Row<u32>; 3] {
 }
 
 fn check_net<K: CostKind<Cost = u32>>(
-    rt: &impl Abort,
-    heap: Global,
+    rt: &(impl Abort + AllocGlobal),
     net: &impl Net,
     gateway: usize,
 ) -> Result<(), Fail> {
-    let right = bellman_ford::<K>(heap, net, gateway)?;
+    let right = bellman_ford::<K>(rt.alloc(), net, gateway)?;
     assert_eq!(rt; judged::<K>(net, gateway, right.as_slice()), Ok(true));
     let mut rows = right.clone()?;
     for (v, right_row) in right.iter().enumerate() {
@@ -59,16 +58,15 @@ fn check_net<K: CostKind<Cost = u32>>(
 
 // A random net of a shape, by fees and by losses.
 fn check_shape(
-    rt: &impl Abort,
-    heap: Global,
+    rt: &(impl Abort + AllocGlobal),
     shape: Shape,
     random: &mut Random,
 ) -> Result<(), Fail> {
-    let mut records = shape.records(heap, random)?;
+    let mut records = shape.records(rt.alloc(), random)?;
     let net = ListNet::new(shape.stations as usize, records.as_mut_slice());
     let gateway = random.below(shape.stations) as usize;
-    check_net::<Fees>(rt, heap, &net, gateway)?;
-    check_net::<Losses>(rt, heap, &net, gateway)
+    check_net::<Fees>(rt, &net, gateway)?;
+    check_net::<Losses>(rt, &net, gateway)
 }
 
 #[test]
@@ -76,7 +74,7 @@ fn random_nets_of_each_shape(rt: HostRuntime) -> Result<(), Fail> {
     let mut random = Random::new(1);
     for shape in shapes() {
         for _ in 0..10 {
-            check_shape(&rt, rt.alloc(), shape, &mut random)?;
+            check_shape(&rt, shape, &mut random)?;
         }
     }
     Ok(())

@@ -1,8 +1,8 @@
 // Sheets that are right, over each kind of net.
 use crate::samples::{NONE, fee_rows, judged, loss_rows, row};
 use costs::{Fees, Losses};
-use figures::{five_lines, open_line};
-use nets::{EditableNet, LatticeFees, LatticeNet, ListNet, PatchedNet};
+use figures::{LATTICE_FEES, LATTICE_LOSS, five_lines, open_line};
+use nets::{EditableNet, LatticeNet, ListNet, PatchedNet};
 use std::test::Fail;
 
 #[test]
@@ -56,17 +56,10 @@ fn one_station(rt: HostRuntime) {
     assert_eq!(rt; judged::<Fees>(&net, 0, &[row(NONE, None)]), Ok(false));
 }
 
-// The fees of a lattice of two rows, stations 0 1 2 and 3 4 5.
-const FEES: LatticeFees = LatticeFees {
-    east: 10,
-    south: 200,
-    west: 70_000,
-    north: 16_777_215,
-};
-
+// Two rows of three: stations 0 1 2 and 3 4 5.
 #[test]
 fn a_lattice(rt: HostRuntime) -> Result<(), Fail> {
-    let net = LatticeNet::new(2, 3, FEES, 300)?;
+    let net = LatticeNet::new(2, 3, LATTICE_FEES, LATTICE_LOSS)?;
     let from_0 = [
         row(0, None),
         row(10, Some(0)),
@@ -91,7 +84,7 @@ fn a_lattice(rt: HostRuntime) -> Result<(), Fail> {
 
 #[test]
 fn a_lattice_by_losses(rt: HostRuntime) -> Result<(), Fail> {
-    let net = LatticeNet::new(2, 3, FEES, 300)?;
+    let net = LatticeNet::new(2, 3, LATTICE_FEES, LATTICE_LOSS)?;
     let rows = [
         row(300, Some(6)),
         row(0, None),

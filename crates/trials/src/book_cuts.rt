@@ -18,7 +18,7 @@ fn start_before(cut: usize) -> usize {
 fn one_byte_more(rt: HostRuntime) -> Result<(), Fail> {
     let mut book = five_line_book().to_vec(rt.alloc())?;
     book.push(0)?;
-    expect_fault(&rt, rt.alloc(), 5, book.as_slice(), (9, 28, Book, None))
+    expect_fault(&rt, 5, book.as_slice(), (9, 28, Book, None))
 }
 
 #[test]
@@ -26,7 +26,7 @@ fn cut_at_every_byte(rt: HostRuntime) -> Result<(), Fail> {
     let book = five_line_book();
     for cut in 0..book.len() {
         let line = cut.checked_sub(3).map(|into| into / 5);
-        expect_fault(&rt, rt.alloc(), 5, &book[..cut], (1, cut, Number, line))?;
+        expect_fault(&rt, 5, &book[..cut], (1, cut, Number, line))?;
     }
     Ok(())
 }
@@ -40,7 +40,7 @@ fn wide_numbers_cut_at_every_byte(rt: HostRuntime) -> Result<(), Fail> {
             _ => Some(1),
         };
         let want = (1, start_before(cut), Number, line);
-        expect_fault(&rt, rt.alloc(), 2, &WIDE[..cut], want)?;
+        expect_fault(&rt, 2, &WIDE[..cut], want)?;
     }
     Ok(())
 }

@@ -65,7 +65,7 @@ fn expect_accepted(heap: Global, room: usize, book: &[u8]) -> Result<(), Fail> {
 fn both_sides_of_each_limit(rt: HostRuntime) -> Result<(), Fail> {
     for (within, beyond, want) in PAIRS {
         expect_accepted(rt.alloc(), 1, within)?;
-        expect_fault(&rt, rt.alloc(), 1, beyond, want)?;
+        expect_fault(&rt, 1, beyond, want)?;
     }
     Ok(())
 }
@@ -74,35 +74,17 @@ fn both_sides_of_each_limit(rt: HostRuntime) -> Result<(), Fail> {
 fn most_lines(rt: HostRuntime) -> Result<(), Fail> {
     let heap = rt.alloc();
     // 2,048 lines are taken, and the first record is not there
-    expect_fault(
-        &rt,
-        heap,
-        MAX_LINES,
-        &[1, 5, 0x80, 0x10],
-        (1, 4, Number, Some(0)),
-    )?;
-    expect_fault(
-        &rt,
-        heap,
-        MAX_LINES,
-        &[1, 5, 0x81, 0x10],
-        (5, 2, Book, None),
-    )?;
-    expect_fault(
-        &rt,
-        heap,
-        MAX_LINES + 1,
-        &[1, 5, 0x81, 0x10],
-        (5, 2, Book, None),
-    )
+    expect_fault(&rt, MAX_LINES, &[1, 5, 0x80, 0x10], (1, 4, Number, Some(0)))?;
+    expect_fault(&rt, MAX_LINES, &[1, 5, 0x81, 0x10], (5, 2, Book, None))?;
+    expect_fault(&rt, MAX_LINES + 1, &[1, 5, 0x81, 0x10], (5, 2, Book, None))
 }
 
 #[test]
 fn room_for_the_lines(rt: HostRuntime) -> Result<(), Fail> {
     let book = [1, 5, 2, 0, 1, 9, 7, 1, 1, 0, 9, 7, 0];
     expect_accepted(rt.alloc(), 2, &book)?;
-    expect_fault(&rt, rt.alloc(), 1, &book, (6, 2, Book, None))?;
-    expect_fault(&rt, rt.alloc(), 0, &book, (6, 2, Book, None))?;
+    expect_fault(&rt, 1, &book, (6, 2, Book, None))?;
+    expect_fault(&rt, 0, &book, (6, 2, Book, None))?;
     // a net with no line needs no room
     expect_accepted(rt.alloc(), 0, &[1, 5, 0])
 }

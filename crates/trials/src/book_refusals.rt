@@ -1,7 +1,7 @@
 // Each refusal of a book: its number, its place, its layer, and its line where a record is at fault.
 use crate::checks::{Told, expect_fault};
 use books::Layer::{Book, Number, Record};
-use std::alloc::Global;
+use std::alloc::AllocGlobal;
 use std::process::Abort;
 use std::test::*;
 
@@ -107,34 +107,34 @@ const ORDER: Cases<'static> = &[
     (&[1, 5, 1, 0, 1, 9, 7, 2, 2], (8, 7, Record, Some(0))),
 ];
 
-fn expect_faults(rt: &impl Abort, heap: Global, cases: Cases) -> Result<(), Fail> {
+fn expect_faults(rt: &(impl Abort + AllocGlobal), cases: Cases) -> Result<(), Fail> {
     for (book, want) in cases {
-        expect_fault(rt, heap, ROOM, *book, *want)?;
+        expect_fault(rt, ROOM, *book, *want)?;
     }
     Ok(())
 }
 
 #[test]
 fn numbers_of_the_head(rt: HostRuntime) -> Result<(), Fail> {
-    expect_faults(&rt, rt.alloc(), HEAD_NUMBERS)
+    expect_faults(&rt, HEAD_NUMBERS)
 }
 
 #[test]
 fn numbers_of_a_record(rt: HostRuntime) -> Result<(), Fail> {
-    expect_faults(&rt, rt.alloc(), RECORD_NUMBERS)
+    expect_faults(&rt, RECORD_NUMBERS)
 }
 
 #[test]
 fn faults_of_a_book(rt: HostRuntime) -> Result<(), Fail> {
-    expect_faults(&rt, rt.alloc(), BOOK_FAULTS)
+    expect_faults(&rt, BOOK_FAULTS)
 }
 
 #[test]
 fn faults_of_a_record(rt: HostRuntime) -> Result<(), Fail> {
-    expect_faults(&rt, rt.alloc(), RECORD_FAULTS)
+    expect_faults(&rt, RECORD_FAULTS)
 }
 
 #[test]
 fn the_first_fault_is_told(rt: HostRuntime) -> Result<(), Fail> {
-    expect_faults(&rt, rt.alloc(), ORDER)
+    expect_faults(&rt, ORDER)
 }

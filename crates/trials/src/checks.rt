@@ -2,7 +2,7 @@
 use crate::samples::MARK;
 use books::{BookFault, Head, Layer, read_book, write_book};
 use nets::{Line, Lines, ListNet, Net};
-use std::alloc::{AllocError, Global};
+use std::alloc::{AllocError, AllocGlobal, Global};
 use std::process::Abort;
 use std::test::*;
 
@@ -44,13 +44,12 @@ pub(crate) fn lines_of(heap: Global, net: &impl Net) -> Result<Vec<Line>, AllocE
 
 // That a book is refused, with room for so many records, and the table stays as it was.
 pub(crate) fn expect_fault(
-    rt: &impl Abort,
-    heap: Global,
+    rt: &(impl Abort + AllocGlobal),
     room: usize,
     book: &[u8],
     want: Told,
 ) -> Result<(), Fail> {
-    let mut table = vec![in heap; MARK; room]?;
+    let mut table = vec![in rt.alloc(); MARK; room]?;
     let answer = read_book(book, table.as_mut_slice()).map_err(tell);
     assert_eq!(rt; answer, Err(want), "{book:?}");
     check_marks(rt, table.as_slice());
@@ -66,14 +65,17 @@ fn book_of(heap: Global, net: &impl Net) -> Result<Vec<u8>, Fail> {
 }
 
 // That the book of a net reads back as that net, and the net that was read has the same book.
-pub(crate) fn check_round_trip(rt: &impl Abort, heap: Global, net: &impl Net) -> Result<(), Fail> {
-    let book = book_of(heap, net)?;
-    let mut table = vec![in heap; MARK; net.line_count()]?;
+pub(crate) fn check_round_trip(
+    rt: &(impl Abort + AllocGlobal),
+    net: &impl Net,
+) -> Result<(), Fail> {
+    let book = book_of(rt.alloc(), net)?;
+    let mut table = vec![in rt.alloc(); MARK; net.line_count()]?;
     let head = read_book(book.as_slice(), table.as_mut_slice())?;
     let (stations, lines) = (net.stations(), net.line_count());
     assert_eq!(rt; head, Head { stations, lines });
     check_lines(rt, net, table.as_slice());
     let again = ListNet::new(head.stations, table.as_mut_slice());
-    assert_eq!(rt; book_of(heap, &again)?, book);
+    assert_eq!(rt; book_of(rt.alloc(), &again)?, book);
     Ok(())
 }

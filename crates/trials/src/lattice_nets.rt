@@ -1,6 +1,7 @@
 // Nets worked out from rows and columns.
 use crate::checks::check_lines;
-use crate::samples::{FEES, LOSS, lattice, line};
+use crate::samples::{lattice, line};
+use figures::{LATTICE_FEES, LATTICE_LOSS};
 use nets::{LatticeFees, LatticeNet, Line, MAX_FEE, MAX_LOSS, Net, Refusal};
 use std::test::*;
 
@@ -65,7 +66,7 @@ fn two_rows_of_three(rt: HostRuntime) -> Result<(), Fail> {
 fn sizes_on_both_sides_of_the_limits(rt: HostRuntime) -> Result<(), Fail> {
     for (rows, columns, stations) in SIZES {
         let want = stations.ok_or(16);
-        let got = LatticeNet::new(rows, columns, FEES, LOSS)
+        let got = LatticeNet::new(rows, columns, LATTICE_FEES, LATTICE_LOSS)
             .map(|net| net.stations())
             .map_err(Refusal::number);
         assert_eq!(rt; got, want, "{rows} rows, {columns} columns");
@@ -97,20 +98,26 @@ fn refusal(rows: usize, columns: usize, fees: LatticeFees, loss: u32) -> Option<
 fn prices_beyond_the_limits(rt: HostRuntime) -> Result<(), Fail> {
     let over = MAX_FEE + 1;
     let excesses = [
-        LatticeFees { east: over, ..FEES },
+        LatticeFees {
+            east: over,
+            ..LATTICE_FEES
+        },
         LatticeFees {
             south: over,
-            ..FEES
+            ..LATTICE_FEES
         },
-        LatticeFees { west: over, ..FEES },
+        LatticeFees {
+            west: over,
+            ..LATTICE_FEES
+        },
         LatticeFees {
             north: over,
-            ..FEES
+            ..LATTICE_FEES
         },
     ];
     for fees in excesses {
-        assert_eq!(rt; refusal(2, 3, fees, LOSS), Some(16));
+        assert_eq!(rt; refusal(2, 3, fees, LATTICE_LOSS), Some(16));
     }
-    assert_eq!(rt; refusal(2, 3, FEES, MAX_LOSS + 1), Some(16));
+    assert_eq!(rt; refusal(2, 3, LATTICE_FEES, MAX_LOSS + 1), Some(16));
     Ok(())
 }

@@ -25,11 +25,7 @@ fn write_longest(heap: Global, out: &mut [u8]) -> Result<Result<usize, u8>, Fail
 fn reads_back(rt: HostRuntime) -> Result<(), Fail> {
     let mut records = vec![in rt.alloc(); LONGEST_RECORD; MAX_LINES]?;
     ListNet::judge(MAX_STATIONS, records.as_slice())?;
-    check_round_trip(
-        &rt,
-        rt.alloc(),
-        &ListNet::new(MAX_STATIONS, records.as_mut_slice()),
-    )
+    check_round_trip(&rt, &ListNet::new(MAX_STATIONS, records.as_mut_slice()))
 }
 
 #[test]

@@ -6,7 +6,7 @@ use crate::samples::{lattice, line};
 use figures::five_lines;
 use nets::{ListNet, MAX_FEE, Net, PatchedNet};
 use random::Random;
-use std::alloc::Global;
+use std::alloc::AllocGlobal;
 use std::process::Abort;
 use std::test::*;
 
@@ -85,12 +85,11 @@ fn the_last_line_of_the_most(rt: HostRuntime) -> Result<(), Fail> {
 
 // That a net under changes takes edits as a list of the same lines does.
 fn check_same_edits(
-    rt: &impl Abort,
-    heap: Global,
+    rt: &(impl Abort + AllocGlobal),
     random: &mut Random,
     beneath: impl Net + Drop,
 ) -> Result<(), Fail> {
-    let mut records = lines_of(heap, &beneath)?;
+    let mut records = lines_of(rt.alloc(), &beneath)?;
     let mut list = ListNet::new(beneath.stations(), records.as_mut_slice());
     let mut patched = PatchedNet::new(beneath);
     for _ in 0..30 {
@@ -108,8 +107,8 @@ fn edits_as_of_a_list(rt: HostRuntime) -> Result<(), Fail> {
     for stations in 1..=20 {
         let mut records = random_records(rt.alloc(), &mut random, 40, stations)?;
         let list = ListNet::new(stations as usize, records.as_mut_slice());
-        check_same_edits(&rt, rt.alloc(), &mut random, list)?;
-        check_same_edits(&rt, rt.alloc(), &mut random, lattice(1, stations as usize)?)?;
+        check_same_edits(&rt, &mut random, list)?;
+        check_same_edits(&rt, &mut random, lattice(1, stations as usize)?)?;
     }
     Ok(())
 }

@@ -3,8 +3,7 @@ use crate::edits::Edit;
 use crate::samples::line;
 use nets::{Line, MAX_FEE, MAX_LOSS};
 use random::Random;
-use std::alloc::Global;
-use std::test::*;
+use std::alloc::{AllocError, Global};
 
 // A number up to `most`, often a short one or `most` itself.
 fn up_to(random: &mut Random, most: u32) -> u32 {
@@ -31,12 +30,10 @@ pub(crate) fn random_records(
     random: &mut Random,
     lines: u32,
     stations: u32,
-) -> Result<Vec<Line>, Fail> {
-    let mut records = Vec::new(heap);
-    for _ in 0..lines {
-        records.push(random_line(random, stations))?;
-    }
-    Ok(records)
+) -> Result<Vec<Line>, AllocError> {
+    (0..lines)
+        .map(|_| random_line(random, stations))
+        .collect(heap)
 }
 
 // An edit, in one of eight cases beyond the limits.

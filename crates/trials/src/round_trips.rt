@@ -4,7 +4,7 @@ use crate::random_inputs::{random_edit, random_records};
 use crate::samples::{lattice, line};
 use nets::{ListNet, Net, PatchedNet};
 use random::Random;
-use std::alloc::Global;
+use std::alloc::AllocGlobal;
 use std::process::Abort;
 use std::test::*;
 
@@ -17,8 +17,8 @@ fn lines_of_every_kind(rt: HostRuntime) -> Result<(), Fail> {
         line(0, 1, 127, 128, true),
         line(1, 0, 16_384, 16_383, false),
     ];
-    check_round_trip(&rt, rt.alloc(), &ListNet::new(2, &mut records))?;
-    check_round_trip(&rt, rt.alloc(), &ListNet::new(1, &mut []))
+    check_round_trip(&rt, &ListNet::new(2, &mut records))?;
+    check_round_trip(&rt, &ListNet::new(1, &mut []))
 }
 
 #[test]
@@ -29,7 +29,7 @@ fn list_nets(rt: HostRuntime) -> Result<(), Fail> {
             let lines = random.below(41);
             let mut records = random_records(rt.alloc(), &mut random, lines, stations)?;
             let net = ListNet::new(stations as usize, records.as_mut_slice());
-            check_round_trip(&rt, rt.alloc(), &net)?;
+            check_round_trip(&rt, &net)?;
         }
     }
     Ok(())
@@ -38,15 +38,14 @@ fn list_nets(rt: HostRuntime) -> Result<(), Fail> {
 #[test]
 fn lattice_nets(rt: HostRuntime) -> Result<(), Fail> {
     for (rows, columns) in [(1, 1), (2, 3), (1, 512), (512, 1), (7, 11), (16, 32)] {
-        check_round_trip(&rt, rt.alloc(), &lattice(rows, columns)?)?;
+        check_round_trip(&rt, &lattice(rows, columns)?)?;
     }
     Ok(())
 }
 
 // The round trip of a net after some edits.
 fn check_edited_trip(
-    rt: &impl Abort,
-    heap: Global,
+    rt: &(impl Abort + AllocGlobal),
     random: &mut Random,
     beneath: impl Net + Drop,
 ) -> Result<(), Fail> {
@@ -55,7 +54,7 @@ fn check_edited_trip(
         let k = random.below(45) as usize;
         let _ = random_edit(random).make(&mut net, k);
     }
-    check_round_trip(rt, heap, &net)
+    check_round_trip(rt, &net)
 }
 
 #[test]
@@ -64,8 +63,8 @@ fn patched_nets(rt: HostRuntime) -> Result<(), Fail> {
     for stations in 1..=20 {
         let mut records = random_records(rt.alloc(), &mut random, 40, stations)?;
         let list = ListNet::new(stations as usize, records.as_mut_slice());
-        check_edited_trip(&rt, rt.alloc(), &mut random, list)?;
-        check_edited_trip(&rt, rt.alloc(), &mut random, lattice(1, stations as usize)?)?;
+        check_edited_trip(&rt, &mut random, list)?;
+        check_edited_trip(&rt, &mut random, lattice(1, stations as usize)?)?;
     }
     Ok(())
 }

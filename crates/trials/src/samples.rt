@@ -1,6 +1,6 @@
 // Books, lines and lattices that the tests begin with.
-use figures::open_line;
-use nets::{LatticeFees, LatticeNet, Line, MAX_FEE, MAX_LOSS, Refusal};
+use figures::{LATTICE_FEES, LATTICE_LOSS, open_line};
+use nets::{LatticeNet, Line, MAX_FEE, MAX_LOSS, Refusal};
 
 // A book of 512 stations and two lines, in which most numbers have several bytes.
 pub(crate) const WIDE: [u8; 27] = *b"\x01\x80\x04\x02\
@@ -28,15 +28,6 @@ pub(crate) const BLANK: Line = Line {
     open: false,
 };
 
-pub(crate) const FEES: LatticeFees = LatticeFees {
-    east: 10,
-    south: 200,
-    west: 70_000,
-    north: MAX_FEE,
-};
-
-pub(crate) const LOSS: u32 = 300;
-
 pub(crate) fn line(from: u32, to: u32, fee: u32, loss: u32, open: bool) -> Line {
     Line {
         open,
@@ -53,5 +44,5 @@ pub(crate) fn wide_records() -> [Line; 2] {
 }
 
 pub(crate) fn lattice(rows: usize, columns: usize) -> Result<LatticeNet, Refusal> {
-    LatticeNet::new(rows, columns, FEES, LOSS)
+    LatticeNet::new(rows, columns, LATTICE_FEES, LATTICE_LOSS)
 }
