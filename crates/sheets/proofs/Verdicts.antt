@@ -89,7 +89,7 @@ module _ {V : Type 0} (K : Costs V) (L : Laws K) where
           back = λ v h some.
               ⊎_elim
               (λ q. ([], q))
-              (λ ne. let k = via_says v (at v h) ne some in back_from_leads G s g G.stations v k.2.back)
+              (λ ne. let k = via_says v (at v h) ne some in let b = back_from_leads G s g G.stations v k.2.back in (b.0, b.1))
               (cases_eq v g);
         })
 

@@ -27,16 +27,17 @@ module _ {V : Type 0} (G : Graph V) (s : Sheet V) (g : ℕ) where
   any_met (suc n) None = refl
   any_met (suc n) (Some u) = ap (λ b. u == g || b) (any_met n (before G (s u).via))
 
-  pub back_from_leads : (n v : ℕ) → leads_back G s g n v ≡ true → (ks : List ℕ) × Back G s g v ks
+  pub back_from_leads : (n v : ℕ) → leads_back G s g n v ≡ true → (ks : List ℕ) × Back G s g v ks × (length ks < n)
   unfolding leads_back
   back_from_leads zero v e = cc
   back_from_leads (suc n) v e =
       ⊎_elim
-      (λ q. ([], eqb-true v g q))
+      (λ q. ([], eqb-true v g q, omega arith))
       (λ q.
       let via = before_says (leads_back G s g n) (s v).via q in
       let rest = back_from_leads n (G.line via.0).from via.3 in
-      (via.0 ∷ rest.0, (via.1, via.2, rest.1)))
+      let short : length rest.0 < n = rest.2 in
+      (via.0 ∷ rest.0, (via.1, via.2, rest.1), omega arith))
       (or_cases (eqb v g) _ e)
 
   pub leads_from_back : (n : ℕ) (ks : List ℕ) (v : ℕ) → Back G s g v ks → length ks < n → leads_back G s g n v ≡ true

@@ -83,7 +83,7 @@ impl<'a, N: Net, K: CostKind> Admitted<'a, N, K> {
     fn via_fits(&self, v: usize, k: usize) -> bool
         ensures { result ≡ fits K.CostKind.ops (graph K.CostKind (N.Net.meant self.now.net.now)) (sheet K.CostKind self.now.rows.now) v k }
     {
-        // Written inside the call, the closure tells a proof nothing of what it answers.
+        // A closure written inside the call tells a proof nothing of its answer.
         let is_tight = |line| self.is_tight_into(v, line);
         self.net.line(k).is_some_and(is_tight)
     }
