@@ -1,7 +1,7 @@
 ghost use Rattle.std.specs.Prelude.{◌≡◌, ◌<◌, length, IfOk, MatchResult};
 ghost use Rattle.sheets.specs.Graph.{edge_of};
 ghost use Rattle.sheets.specs.Verdict.{request as request_of, relaxed, tight_into, lines_hold, before, leads_back, fits, station_holds, stations_hold, verdict};
-ghost use Rattle.sheets.specs.Tables.{read_row, graph, sheet};
+ghost use Rattle.sheets.specs.Tables.{read_row};
 ghost use Rattle.sheets.specs.Check.{admitted};
 
 use crate::comparing::{is_none, same_cost};
@@ -21,6 +21,8 @@ pub(crate) struct Admitted<'a, N: Net, K: CostKind> {
 }
 
 impl<'a, N: Net, K: CostKind> Admitted<'a, N, K> {
+    ghost use Rattle.sheets.specs.Given.{given_graph, given_sheet};
+
     // Refuses a gateway that is not a station, then a table that has not one row for each station.
     pub(crate) fn admit(
         net: &'a N,
@@ -43,7 +45,7 @@ impl<'a, N: Net, K: CostKind> Admitted<'a, N, K> {
 
     // The row of station v. Past the end of the table it is the blank row, so no caller needs to know that v is a station.
     fn row(&self, v: usize) -> Row<K::Cost>
-        ensures { read_row K.CostKind.value result ≡ sheet K.CostKind self.now.rows.now v }
+        ensures { read_row K.CostKind.value result ≡ given_sheet self.now v }
     {
         self.rows.get(v).copied().unwrap_or(Row {
             cost: K::none(),
@@ -53,35 +55,35 @@ impl<'a, N: Net, K: CostKind> Admitted<'a, N, K> {
 
     // The request of a line: the cost of its from station joined with its own.
     fn request(&self, line: Line) -> K::Cost
-        ensures { K.CostKind.value result ≡ request_of K.CostKind.ops (sheet K.CostKind self.now.rows.now) (edge_of K.CostKind.ops line) }
+        ensures { K.CostKind.value result ≡ request_of K.CostKind.ops (given_sheet self.now) (edge_of K.CostKind.ops line) }
     {
         K::join(self.row(line.from as usize).cost, line_cost::<K>(line))
     }
 
     // Whether a line is relaxed: its request is not below the cost of its to station.
     fn is_relaxed(&self, line: Line) -> bool
-        ensures { result ≡ relaxed K.CostKind.ops (sheet K.CostKind self.now.rows.now) (edge_of K.CostKind.ops line) }
+        ensures { result ≡ relaxed K.CostKind.ops (given_sheet self.now) (edge_of K.CostKind.ops line) }
     {
         K::at_most(self.row(line.to as usize).cost, self.request(line))
     }
 
     // Whether every line is relaxed.
     fn lines_relaxed(&self) -> bool
-        ensures { result ≡ lines_hold K.CostKind.ops (graph K.CostKind (N.Net.meant self.now.net.now)) (sheet K.CostKind self.now.rows.now) }
+        ensures { result ≡ lines_hold K.CostKind.ops (given_graph self.now) (given_sheet self.now) }
     {
         Lines::of(self.net).all(|line| self.is_relaxed(line))
     }
 
     // Whether a line leads into station v, and its request is the cost of v.
     fn is_tight_into(&self, v: usize, line: Line) -> bool
-        ensures { result ≡ tight_into K.CostKind.ops (sheet K.CostKind self.now.rows.now) v (edge_of K.CostKind.ops line) }
+        ensures { result ≡ tight_into K.CostKind.ops (given_sheet self.now) v (edge_of K.CostKind.ops line) }
     {
         line.to as usize == v && same_cost::<K>(self.request(line), self.row(v).cost)
     }
 
     // Whether there is a line k, it leads into station v, and its request is the cost of v.
     fn via_fits(&self, v: usize, k: usize) -> bool
-        ensures { result ≡ fits K.CostKind.ops (graph K.CostKind (N.Net.meant self.now.net.now)) (sheet K.CostKind self.now.rows.now) v k }
+        ensures { result ≡ fits K.CostKind.ops (given_graph self.now) (given_sheet self.now) v k }
     {
         // A closure written inside the call tells a proof nothing of its answer.
         let is_tight = |line| self.is_tight_into(v, line);
@@ -90,7 +92,7 @@ impl<'a, N: Net, K: CostKind> Admitted<'a, N, K> {
 
     // The station from which the via of station v comes, if it has one that is a line.
     fn previous(&self, v: usize) -> Option<usize>
-        ensures { result ≡ before (graph K.CostKind (N.Net.meant self.now.net.now)) (sheet K.CostKind self.now.rows.now v).via }
+        ensures { result ≡ before (given_graph self.now) (given_sheet self.now v).via }
     {
         let via = self.row(v).via?;
         let line = self.net.line(via)?;
@@ -99,7 +101,7 @@ impl<'a, N: Net, K: CostKind> Admitted<'a, N, K> {
 
     // Whether the gateway is among the first stations that are met from v on, following vias back: as many as there are rows.
     fn leads_back(&self, v: usize) -> bool
-        ensures { result ≡ leads_back (graph K.CostKind (N.Net.meant self.now.net.now)) (sheet K.CostKind self.now.rows.now) self.now.gateway (length self.now.rows.now) v }
+        ensures { result ≡ leads_back (given_graph self.now) (given_sheet self.now) self.now.gateway (length self.now.rows.now) v }
     {
         successors(Some(v), |u| self.previous(*u))
             .take(self.rows.len())
@@ -109,7 +111,7 @@ impl<'a, N: Net, K: CostKind> Admitted<'a, N, K> {
     // Whether the row of station v holds. Without a via the gateway costs start, and every other station none. With one, v is not the
     // gateway, it has a cost, the via fits, and it leads back to the gateway.
     fn station_holds(&self, v: usize) -> bool
-        ensures { result ≡ station_holds K.CostKind.ops (graph K.CostKind (N.Net.meant self.now.net.now)) self.now.gateway (sheet K.CostKind self.now.rows.now) v }
+        ensures { result ≡ station_holds K.CostKind.ops (given_graph self.now) self.now.gateway (given_sheet self.now) v }
     {
         let row = self.row(v);
         match row.via {
@@ -127,14 +129,14 @@ impl<'a, N: Net, K: CostKind> Admitted<'a, N, K> {
     // Whether every station's row holds.
     #[tactic(auto, unfolding(crate::specs::Verdict::all_below))]
     fn stations_hold(&self) -> bool
-        ensures { result ≡ stations_hold K.CostKind.ops (graph K.CostKind (N.Net.meant self.now.net.now)) self.now.gateway (sheet K.CostKind self.now.rows.now) }
+        ensures { result ≡ stations_hold K.CostKind.ops (given_graph self.now) self.now.gateway (given_sheet self.now) }
     {
         (0..self.rows.len()).all(|v| self.station_holds(v))
     }
 
     // Whether every line is relaxed and every station's row holds.
     pub(crate) fn holds(&self) -> bool
-        ensures { result ≡ verdict K.CostKind.ops (graph K.CostKind (N.Net.meant self.now.net.now)) self.now.gateway (sheet K.CostKind self.now.rows.now) }
+        ensures { result ≡ verdict K.CostKind.ops (given_graph self.now) self.now.gateway (given_sheet self.now) }
     {
         self.lines_relaxed() && self.stations_hold()
     }

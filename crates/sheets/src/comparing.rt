@@ -3,8 +3,8 @@ ghost use Rattle.sheets.specs.Verdict.{same_cost, is_none};
 
 use costs::CostKind;
 
-// Whether two costs mean the same: each is at most the other. No `==` of the stored costs, since the order and the equality are those of
-// what costs mean, where several stored costs may mean the same.
+// Whether two costs mean the same: each is at most the other. It is no `==`, since the order and the equality are those of what costs
+// mean, where several stored costs may mean the same.
 pub(crate) fn same_cost<K: CostKind>(a: K::Cost, b: K::Cost) -> bool
     ensures { result ≡ same_cost K.CostKind.ops (K.CostKind.value a) (K.CostKind.value b) }
 {
