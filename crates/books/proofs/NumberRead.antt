@@ -21,6 +21,23 @@ scales (suc (suc (suc zero))) h = inr (omega arith, lit≤ tt)
 scales (suc (suc (suc (suc zero)))) h = inl (refl, refl)
 scales (suc (suc (suc (suc (suc k))))) h = absurd (omega arith)
 
+-- the last group
+pub last_fits : (k low s b : ℕ) → k < 5 → s ≡ 128 ^ k → low < s → b < 128 → ((k ≡ 4) → b ≤ 15) → low + b * s < 2 ^ 32
+last_fits k low s b f e l q small =
+    elim (scales k f) [
+      | inl w ↦ let m = mul-le-mul_right s (small w.0) in omega (arith, w.1)
+      | inr w ↦ let b127 : b ≤ 127 = omega arith in let m = mul-le-mul_right s b127 in omega (arith, w.1)
+    ]
+
+-- any group but the last
+pub group_fits : (k low s b : ℕ) → k < 5 → s ≡ 128 ^ k → low < s → b < 256 → 128 ≤ b → ((k ≡ 4) → b ≤ 15)
+    → (k + 1 < 5) × (low + (b - 128) * s < s * 128) × (s * 128 < 2 ^ 32)
+group_fits k low s b f e l t q small =
+    elim (scales k f) [
+      | inl w ↦ absurd (omega (arith, small w.0))
+      | inr w ↦ let b127 : b - 128 ≤ 127 = omega arith in let m = mul-le-mul_right s b127 in (omega (arith, w.0), omega arith, omega (arith, w.1))
+    ]
+
 module _ (bs : List ℕ) (k low s : ℕ) (f : Front bs k low s) where
   pub at_end : length bs ≤ k → Err Cut ≡ number bs
   at_end h = sym (f.rest ∙ at_drop_all (number_from k low) bs k h)
@@ -30,32 +47,22 @@ module _ (bs : List ℕ) (k low s : ℕ) (f : Front bs k low s) where
     next = f.rest ∙ at_drop_more (number_from k low) bs k 0 h
 
     module _ (small : (k ≡ 4) → get_or bs k 0 ≤ 15) where
-      -- the last group
-      pub last_fits : get_or bs k 0 < 128 → low + get_or bs k 0 * s < 2 ^ 32
-      last_fits q = let e = f.power in let l = f.below in
-          elim (scales k f.few) [
-            | inl w ↦ let m = mul-le-mul_right s (small w.0) in omega (arith, w.1)
-            | inr w ↦ let b127 : get_or bs k 0 ≤ 127 = omega arith in let m = mul-le-mul_right s b127 in omega (arith, w.1)
-          ]
+      pub last_byte : get_or bs k 0 < 128 → low + get_or bs k 0 * s < 2 ^ 32
+      last_byte q = last_fits k low s (get_or bs k 0) f.few f.power f.below q small
 
-      -- any group but the last
-      pub group_fits : 128 ≤ get_or bs k 0 → get_or bs k 0 < 256 → (low + (get_or bs k 0 - 128) * s < s * 128) × (s * 128 < 2 ^ 32)
-      group_fits q t = let e = f.power in let l = f.below in
-          elim (scales k f.few) [
-            | inl w ↦ absurd (omega (arith, small w.0))
-            | inr w ↦ let b127 : get_or bs k 0 - 128 ≤ 127 = omega arith in let m = mul-le-mul_right s b127 in (omega arith, omega (arith, w.1))
-          ]
+      pub more_byte : 128 ≤ get_or bs k 0 → get_or bs k 0 < 256 → (k + 1 < 5) × (low + (get_or bs k 0 - 128) * s < s * 128) × (s * 128 < 2 ^ 32)
+      more_byte q t = group_fits k low s (get_or bs k 0) f.few f.power f.below t q small
 
       pub at_more : 128 ≤ get_or bs k 0 → get_or bs k 0 < 256 → Front bs (k + 1) (low + (get_or bs k 0 - 128) * s) (s * 128)
-      at_more q t = let e = next in let p = f.power in record {
-        few = elim (scales k f.few) [ inl w ↦ absurd (omega (arith, small w.0)) | inr w ↦ omega (arith, w.0) ];
+      at_more q t = let e = next in let p = f.power in let g = more_byte q t in record {
+        few = g.0;
         power = rw (add-one, pow-suc, p);
-        below = (group_fits q t).0;
+        below = g.1;
         rest = rw p (grind (arith, nat_tests));
       }
 
 -- the steps of the loop that reads a number
-pub ruleset number_steps = (at_end, next, last_fits, group_fits, at_more)
+pub ruleset number_steps = (at_end, next, last_byte, more_byte, at_more)
 
 -- a number that is read lies within its bytes
 count_within : (k low v n : ℕ) (bs : List ℕ) → number_from k low bs ≡ Ok (v, n) → n ≤ k + length bs
