@@ -38,31 +38,34 @@ group_fits k low s b f e l t q small =
       | inr w ↦ let b127 : b - 128 ≤ 127 = omega arith in let m = mul-le-mul_right s b127 in (omega (arith, w.0), omega arith, omega (arith, w.1))
     ]
 
-module _ (bs : List ℕ) (k low s : ℕ) (f : Front bs k low s) where
-  pub at_end : length bs ≤ k → Err Cut ≡ number bs
-  at_end h = sym (f.rest ∙ at_drop_all (number_from k low) bs k h)
+module _ (bs : List ℕ) (k low : ℕ) (rest : number bs ≡ number_from k low (drop k bs)) where
+  pub at_short : length bs ≤ k → Err Cut ≡ number bs
+  at_short h = sym (rest ∙ at_drop_all (number_from k low) bs k h)
 
   module _ (h : k < length bs) where
     pub next : number bs ≡ number_from k low (get_or bs k 0 ∷ drop (k + 1) bs)
-    next = f.rest ∙ at_drop_more (number_from k low) bs k 0 h
+    next = rest ∙ at_drop_more (number_from k low) bs k 0 h
 
-    module _ (small : (k ≡ 4) → get_or bs k 0 ≤ 15) where
-      pub last_byte : get_or bs k 0 < 128 → low + get_or bs k 0 * s < 2 ^ 32
-      last_byte q = last_fits k low s (get_or bs k 0) f.few f.power f.below q small
+    pub at_more : ((k ≡ 4) → get_or bs k 0 ≤ 15) → 128 ≤ get_or bs k 0 → number bs ≡ number_from (k + 1) (low + (get_or bs k 0 - 128) * 128 ^ k) (drop (k + 1) bs)
+    at_more small q = let e = next in grind (arith, nat_tests)
 
-      pub more_byte : 128 ≤ get_or bs k 0 → get_or bs k 0 < 256 → (k + 1 < 5) × (low + (get_or bs k 0 - 128) * s < s * 128) × (s * 128 < 2 ^ 32)
-      more_byte q t = group_fits k low s (get_or bs k 0) f.few f.power f.below t q small
+module _ (bs : List ℕ) (k low s : ℕ) (f : Front bs k low s) (h : k < length bs) (small : (k ≡ 4) → get_or bs k 0 ≤ 15) where
+  pub last_byte : get_or bs k 0 < 128 → low + get_or bs k 0 * s < 2 ^ 32
+  last_byte q = last_fits k low s (get_or bs k 0) f.few f.power f.below q small
 
-      pub at_more : 128 ≤ get_or bs k 0 → get_or bs k 0 < 256 → Front bs (k + 1) (low + (get_or bs k 0 - 128) * s) (s * 128)
-      at_more q t = let e = next in let p = f.power in let g = more_byte q t in record {
-        few = g.0;
-        power = rw (add-one, pow-suc, p);
-        below = g.1;
-        rest = rw p (grind (arith, nat_tests));
-      }
+  pub more_byte : 128 ≤ get_or bs k 0 → get_or bs k 0 < 256 → (k + 1 < 5) × (low + (get_or bs k 0 - 128) * s < s * 128) × (s * 128 < 2 ^ 32)
+  more_byte q t = group_fits k low s (get_or bs k 0) f.few f.power f.below t q small
+
+  pub front_more : 128 ≤ get_or bs k 0 → get_or bs k 0 < 256 → Front bs (k + 1) (low + (get_or bs k 0 - 128) * s) (s * 128)
+  front_more q t = let p = f.power in let g = more_byte q t in record {
+    few = g.0;
+    power = rw (add-one, pow-suc, p);
+    below = g.1;
+    rest = rw p (at_more bs k low f.rest h small q);
+  }
 
 -- the steps of the loop that reads a number
-pub ruleset number_steps = (at_end, next, last_byte, more_byte, at_more)
+pub ruleset number_steps = (at_short, next, last_byte, more_byte, front_more)
 
 -- a number that is read lies within its bytes
 count_within : (k low v n : ℕ) (bs : List ℕ) → number_from k low bs ≡ Ok (v, n) → n ≤ k + length bs
