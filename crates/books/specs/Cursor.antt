@@ -1,6 +1,6 @@
 -- What a method of the reader answers, and where it leaves the cursor. Assumes nothing.
-use Rattle.std.specs.Prelude.{◌≡◌, ℕ, Bool, cond, List, Ok, Err, Result, MatchResult}
-use Rattle.std.specs.Result.{IsErrAnd}
+use Rattle.std.specs.Prelude.{◌≡◌, ℕ, cond, List, Ok, Err, Result, MatchResult}
+use Rattle.std.specs.Result.{IsErrAnd, is_ok}
 use Rattle.books.specs.declared.fault.NumberFault.{NumberFault}
 use Rattle.books.specs.declared.reader.Reader.{Reader}
 use Rattle.books.specs.Reading.{number_at}
@@ -22,11 +22,11 @@ pub record Reads {A F : Type 0} (place : F → ℕ) (reading : List ℕ → ℕ 
   pub cursor : after.at ≡ cursor_after place (reading before.book.now before.at)
   pub book : after.book ≡ before.book
 
--- The number at the cursor is taken where it passes, and otherwise the answer is the fault, or what becomes of the number's own
--- fault, and the cursor stays.
-pub record Takes {F : Type 0} (Becomes : NumberFault → F → Type 0) (Tests : ℕ → Bool → Type 0) (fault : F) (before after : Reader) (r : Result ℕ F) : Type 0 where
+-- The number at the cursor is judged, and taken where the judging accepts it; otherwise the answer is the fault that the judging
+-- gives, or what becomes of the number's own fault, and the cursor stays.
+pub record Takes {A F : Type 0} (Becomes : NumberFault → F → Type 0) (JudgesAs : ℕ → Result A F → Type 0) (before after : Reader) (r : Result A F) : Type 0 where
   pub book : after.book ≡ before.book
   pub answer :
       MatchResult (number_at before.book.now before.at)
-      (λ x. (b : Bool) × Tests x.0 b × (r ≡ cond b (Ok x.0) (Err fault)) × (after.at ≡ cond b x.1 before.at))
+      (λ x. JudgesAs x.0 r × (after.at ≡ cond (is_ok r) x.1 before.at))
       (λ e. IsErrAnd r (Becomes e) × (after.at ≡ before.at))

@@ -50,53 +50,62 @@ impl<'a> Reader<'a> {
             .map_err(|error| NumberFault { place, error })
     }
 
-    // Takes the number at the cursor if it fits, and otherwise answers the fault and leaves the cursor at it.
-    fn number<E: From<NumberFault> + Copy, F: FnOnce(u32) -> bool>(
+    // Takes the number at the cursor as what it is judged to be, and otherwise answers the fault and leaves the cursor at it.
+    fn number<T, E: From<NumberFault>, F: FnOnce(u32) -> Result<T, E>>(
         &mut self,
-        fits: F,
-        fault: E,
-    ) -> Result<u32, E>
-        requires { F.IsAlwaysCallable fits }
-        ensures { Takes E.From.from_gives (F.post fits) fault self.old self.new result }
+        judge: F,
+    ) -> Result<T, E>
+        requires { F.IsAlwaysCallable judge }
+        ensures { Takes E.From.from_gives (F.post judge) self.old self.new result }
     {
         let (number, next) = self.peek()?;
-        if !fits(number) {
-            return Err(fault);
+        let judged = judge(number);
+        if judged.is_ok() {
+            self.at = next;
         }
-        self.at = next;
-        Ok(number)
+        judged
     }
 
     fn edition(&mut self) -> Result<u32, BookFault>
         ensures { Reads place_of edition_at self.old self.new result }
     {
-        self.number(|n| n == EDITION, BookFault::Edition { place: self.at })
+        let place = self.at;
+        self.number(|n| {
+            if n == EDITION {
+                Ok(n)
+            } else {
+                Err(BookFault::Edition { place })
+            }
+        })
     }
 
     fn stations(&mut self) -> Result<usize, BookFault>
         ensures { Reads place_of stations_at self.old self.new result }
     {
-        let stations = self.number(
-            |n| n > 0 && n as usize <= MAX_STATIONS,
-            BookFault::HeadLimit { place: self.at },
-        )?;
-        Ok(stations as usize)
+        let place = self.at;
+        self.number(|n| {
+            if (1..=MAX_STATIONS).contains(&(n as usize)) {
+                Ok(n as usize)
+            } else {
+                Err(BookFault::HeadLimit { place })
+            }
+        })
     }
 
     fn lines(&mut self, room: usize) -> Result<usize, BookFault>
         ensures { Reads place_of (lines_at room) self.old self.new result }
     {
         let place = self.at;
-        let lines = self.number(
-            |n| n as usize <= MAX_LINES,
-            BookFault::HeadLimit { place },
-        )? as usize;
-        if lines > room {
-            // back to the number, which is at fault
-            self.at = place;
-            return Err(BookFault::TableShort { place });
-        }
-        Ok(lines)
+        self.number(|n| {
+            let lines = n as usize;
+            if lines > MAX_LINES {
+                Err(BookFault::HeadLimit { place })
+            } else if lines > room {
+                Err(BookFault::TableShort { place })
+            } else {
+                Ok(lines)
+            }
+        })
     }
 
     // The head, for a table with room for so many records.
@@ -124,16 +133,27 @@ impl<'a> Reader<'a> {
     fn station(&mut self, stations: usize) -> Result<u32, RecordError>
         ensures { Reads record_place (station_at stations) self.old self.new result }
     {
-        self.number(
-            |n| (n as usize) < stations,
-            RecordError::Station { place: self.at },
-        )
+        let place = self.at;
+        self.number(|n| {
+            if (n as usize) < stations {
+                Ok(n)
+            } else {
+                Err(RecordError::Station { place })
+            }
+        })
     }
 
     fn limited(&mut self, most: u32) -> Result<u32, RecordError>
         ensures { Reads record_place (limited_at most) self.old self.new result }
     {
-        self.number(|n| n <= most, RecordError::Limit { place: self.at })
+        let place = self.at;
+        self.number(|n| {
+            if n <= most {
+                Ok(n)
+            } else {
+                Err(RecordError::Limit { place })
+            }
+        })
     }
 
     // From and to: a method of its own, since all five numbers in one leave the check no margin.
@@ -147,7 +167,12 @@ impl<'a> Reader<'a> {
     fn open(&mut self) -> Result<bool, RecordError>
         ensures { Reads record_place open_at self.old self.new result }
     {
-        Ok(self.limited(1)? == 1)
+        let place = self.at;
+        self.number(|n| match n {
+            0 => Ok(false),
+            1 => Ok(true),
+            _ => Err(RecordError::Limit { place }),
+        })
     }
 
     #[tactic(auto, unfolding(crate::specs::Records::fields_at))]
