@@ -8,3 +8,4 @@ pub mod NumberTrips
 pub mod BookAccepted
 pub mod BookReadBack
 pub mod Writing
+pub mod Lengths
