@@ -12,7 +12,8 @@ use crate::head::Head;
 use crate::reader::Reader;
 use nets::Line;
 
-// Reads the records of a head's lines, and keeps none.
+// Reads the records of a head's lines, and keeps none. The loop counts lines, since k is the number of
+// the line that a fault tells; one loop for both passes would say less of each.
 #[tactic(auto, using(crate::proofs::RecordsRead::judging_steps))]
 fn judge_records(reader: &mut Reader, head: Head) -> Result<(), RecordFault>
     ensures { Reads fault_place (λ book p. passed (records_at head.lines 0 head.stations book p)) reader.old reader.new result }

@@ -1,4 +1,6 @@
 // A writer over an output, with a cursor: each method writes at the cursor and leaves it behind what it wrote.
+// It is not the library's `Cursor`, whose `write` may write less and answers a `Result`: here there is
+// always room, which the contracts say.
 ghost use Rattle.std.specs.Prelude.{[], ◌∷◌};
 ghost use Rattle.std.specs.List.{flat_map};
 ghost use Rattle.books.specs.Book.{book_of};
