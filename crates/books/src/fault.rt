@@ -79,6 +79,7 @@ impl From<RecordFault> for BookFault {
     }
 }
 
+// Methods and no `From`: a fault answers three questions, its refusal, its place and its layer, and they read alike.
 impl NumberError {
     pub(crate) fn refusal(self) -> Refusal
         ensures { result ≡ number_refusal self }

@@ -7,5 +7,6 @@ pub struct Amount {
     ghost fits: { number ≤ largest },
 }
 
-// The largest number, which stands for the cost none.
+// The largest number, which stands for the cost none. A number and no Option of one: none is the greatest cost, so the order and the sum
+// of numbers are those of costs as they stand.
 pub(crate) const LARGEST: u32 = u32::MAX;

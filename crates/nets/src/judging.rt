@@ -1,4 +1,5 @@
-// The refusals of the two edits, once for every net.
+// The refusals of the two edits, once for every net. A fee and a loss go side by side, as in the calls: a struct of both would be made at
+// each call to be taken apart in the next.
 ghost use Rattle.std.specs.Prelude.{◌≡◌};
 ghost use Rattle.nets.specs.Edits.{price_answer, open_answer};
 

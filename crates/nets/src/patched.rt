@@ -10,8 +10,8 @@ use crate::line::Line;
 use crate::net::{EditableNet, Net};
 use crate::refusal::Refusal;
 
-// What is changed of a line. A fee or a loss beyond its limit reads as unchanged, and so does an absent `open`.
-// The table is plain, without an invariant, so a number has to read somehow whatever it is: an Option would not spare that rule.
+// What is changed of a line. A fee or a loss beyond its limit reads as unchanged, and so does an absent `open`. The table of changes has no
+// invariant, so every number in it reads somehow: an Option of a number would need the same rule.
 #[derive(Clone, Copy)]
 pub struct Change {
     fee: u32,
@@ -65,7 +65,7 @@ impl Change {
     }
 }
 
-// A change for each line that a net may have.
+// A change for each line that a net may have: plain, of one size, and without an invariant.
 #[derive(Drop)]
 pub struct PatchTable {
     changes: [Change; MAX_LINES],

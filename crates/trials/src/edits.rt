@@ -4,7 +4,7 @@ use nets::{EditableNet, Line, MAX_FEE, MAX_LOSS, Refusal};
 use std::process::Abort;
 use std::test::*;
 
-// Values, not closures: tables of edits are made on two nets of different types, and closures can't stand in a table for both.
+// An enum, since edits stand in constants, are copied, and are made on nets of both kinds.
 #[derive(Clone, Copy)]
 pub(crate) enum Edit {
     // a fee and a loss

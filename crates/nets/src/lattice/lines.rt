@@ -19,7 +19,7 @@ fn size_fits(rows: usize, columns: usize) -> bool
         .is_some_and(|stations| (1..=MAX_STATIONS).contains(&stations))
 }
 
-// Whether a lattice is within its limits.
+// Whether a lattice is within its limits. What is not yet judged is no `LatticeNet`, so its parts go side by side.
 fn lattice_fits(rows: usize, columns: usize, fees: LatticeFees, loss: u32) -> bool
     ensures { result ≡ lattice_fits rows columns fees loss }
 {
