@@ -15,7 +15,8 @@ use nets::{Line, MAX_FEE, MAX_LINES, MAX_LOSS, MAX_STATIONS};
 // The edition that this reader takes, and the writer writes.
 pub(crate) const EDITION: u32 = 1;
 
-// The book, and the place in it of the next byte to be read, which may lie beyond the end.
+// The book, and the place in it of the next byte to be read, which may lie beyond the end. A slice with a place, and no `Cursor`: callers
+// set the place themselves, and a refusal leaves it at the number at fault.
 #[derive(Drop)]
 pub struct Reader<'a> {
     pub book: &'a [u8],

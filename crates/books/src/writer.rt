@@ -70,7 +70,7 @@ impl<'a> Writer<'a> {
     }
 
     // The book of a net.
-    pub fn book<N: Net>(&mut self, net: &N)
+    pub(crate) fn book<N: Net>(&mut self, net: &N)
         requires { HasRoom (book_of (N.Net.meant net.now)) self.old }
         ensures { Writes (book_of (N.Net.meant net.now)) self.old self.new }
     {

@@ -5,8 +5,8 @@ ghost use Rattle.costs.specs.AmountLaws.{loss_laws};
 use crate::amount::{Amount, LARGEST};
 use crate::kind::CostKind;
 
-// A line costs its loss. Losses join to the greater. Six of the nine items of this impl read as those of fees. A generic kind over a rule
-// for the other three would be longer than the six lines, with a trait of rules, two rules and names for the two kinds.
+// A line costs its loss. Losses join to the greater. Six of the ten items of this impl read as those of fees. A generic kind over a rule
+// for the other four would be longer than the six lines, with a trait of rules, two rules and names for the two kinds.
 pub struct Losses;
 
 impl CostKind for Losses {

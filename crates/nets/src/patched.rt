@@ -65,7 +65,7 @@ impl Change {
     }
 }
 
-// A change for each line that a net may have: plain, of one size, and without an invariant.
+// A change for each line that a net may have: a table of one size, without an invariant, so that a patched net needs no heap.
 #[derive(Drop)]
 pub struct PatchTable {
     changes: [Change; MAX_LINES],

@@ -12,7 +12,7 @@ pub(crate) const LONGEST: usize = 24_581;
 // What a fault tells: the number, as users are told it, the place, the layer, and the line where a record is at fault.
 pub(crate) type Told = (u8, usize, Layer, Option<usize>);
 
-// A function and no `From`: a tuple is nobody's type to convert into.
+// A function and no `From`: a tuple is no type of ours.
 pub(crate) fn tell(fault: BookFault) -> Told {
     let line = match fault {
         BookFault::Record(record) => Some(record.line),

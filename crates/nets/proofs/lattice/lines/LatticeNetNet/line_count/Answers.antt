@@ -1,3 +1,4 @@
+-- The check does not find this alone.
 use Rattle.std.proofs.Common.{◌*◌, sym, ap, ◌∙◌}
 use Rattle.nets.specs.Lattice.{directions}
 use Rattle.nets.specs.LatticeSound.{length-lattice}
