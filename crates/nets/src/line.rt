@@ -23,11 +23,12 @@ pub const BLANK_LINE: Line = Line {
     open: false,
 };
 
-// Whether a fee and a loss are within their limits.
+// Whether a fee and a loss are within their limits. It is `&` here and in `fits`: by `&&` a list net took 1.7 times the instructions
+// and about twice the time to answer a line.
 pub(crate) fn price_fits(fee: u32, loss: u32) -> bool
     ensures { result ≡ price_fits fee loss }
 {
-    fee <= MAX_FEE && loss <= MAX_LOSS
+    (fee <= MAX_FEE) & (loss <= MAX_LOSS)
 }
 
 impl Line {
@@ -39,9 +40,9 @@ impl Line {
     pub(crate) fn fits(self, stations: usize) -> bool
         ensures { result ≡ line_fits stations self }
     {
-        (self.from as usize) < stations
-            && (self.to as usize) < stations
-            && price_fits(self.fee, self.loss)
+        ((self.from as usize) < stations)
+            & ((self.to as usize) < stations)
+            & price_fits(self.fee, self.loss)
     }
 
     // The line as a net of so many stations reads it.
