@@ -1,6 +1,7 @@
 pub mod Within
 pub mod RouteCosts
 pub mod Consistency
+pub mod Counting
 pub mod Tested
 pub mod Successors
 pub mod WalksBack

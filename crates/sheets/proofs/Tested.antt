@@ -1,8 +1,8 @@
--- A test of every number below n: what it says, and that of every element of a list. Assumes nothing.
-use Rattle.std.proofs.Common.{◌≡◌, ℕ, ◌<◌, Bool, true, List, length, get_or, sym, refl, ap, ◌∙◌, zero-add}
-use Rattle.std.specs.List.{list_all, range_with_len}
-use Rattle.std.proofs.lemmas.List.Folds.{list_all-map}
-use Rattle.std.proofs.lemmas.List.FromFn.{length-range_with_len, get_or-range_with_len, fill_by_all}
+-- A test of every number below n: a loop's start and step, one that fails, and what it says. Assumes nothing.
+use Rattle.std.proofs.Common.{◌≡◌, ℕ, ◌+◌, ◌<◌, Bool, true, false, get_or, sym, refl, ap, ◌∙◌, ⊎_elim, zero-add, arith}
+use Rattle.std.specs.List.{range_with_len}
+use Rattle.std.proofs.lemmas.Bool.{cases_lt, false_from_ne_true}
+use Rattle.std.proofs.lemmas.List.FromFn.{length-range_with_len, get_or-range_with_len}
 use Rattle.std.proofs.lemmas.List.Sums.{AllPass-from_list_all, list_all-from_AllPass}
 use Rattle.sheets.specs.Verdict.{all_below}
 
@@ -19,8 +19,13 @@ all_from p n h =
     let below : k < n = rw (length-range_with_len 0 n) at l in
     ap p (get_or-range_with_len 0 n k d below ∙ zero-add k) ∙ h k below)
 
-pub all_elements : {X : Type 0} (p : X → Bool) (xs : List X) (d : X) → list_all p xs ≡ all_below (λ k. p (get_or xs k d)) (length xs)
+pub all_none : (p : ℕ → Bool) → all_below p 0 ≡ true
 unfolding all_below
-all_elements p xs d =
-    let at : ℕ → _ = λ k. get_or xs k d in
-    ap (list_all p) (fill_by_all at xs (length xs) d refl (λ k h. refl)) ∙ list_all-map p at (range_with_len 0 (length xs))
+all_none p = refl
+
+pub all_more : (p : ℕ → Bool) (n : ℕ) → all_below p n ≡ true → p n ≡ true → all_below p (n + 1) ≡ true
+all_more p n below here =
+    all_from p (n + 1) (λ k l. ⊎_elim (λ before. all_says p n below k before) (λ q. let last : k ≡ n = omega arith in ap p last ∙ here) (cases_lt k n))
+
+pub all_fails : (p : ℕ → Bool) (n k : ℕ) → k < n → p k ≡ false → all_below p n ≡ false
+all_fails p n k h e = false_from_ne_true _ (λ all. let holds = all_says p n all k h in cc)

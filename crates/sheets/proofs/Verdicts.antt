@@ -1,5 +1,5 @@
 -- The verdict is yes exactly for a right sheet. Assumes nothing.
-use Rattle.std.proofs.Common.{arith, ◌≡◌, ℕ, ◌<◌, true, eqb, [], Some, None, Option, sym, refl, ap, ◌∙◌, ⊎_elim}
+use Rattle.std.proofs.Common.{arith, ◌≡◌, ℕ, ◌<◌, true, eqb, ◌⊎◌, [], Some, None, Option, sym, refl, ap, ◌∙◌, inl, inr, ⊎_elim}
 use Rattle.std.proofs.lemmas.Bool.{both_ways, cases_Bool, cases_eq, and_from, and_parts, eqb-true, eqb-false, eq-eqb, ne_eqb, not-true, not_from_false}
 use Rattle.std.proofs.lemmas.Bool.Decides.{nat_tests}
 use Rattle.std.proofs.lemmas.Option.{none-some}
@@ -29,7 +29,15 @@ module _ {V : Type 0} (K : Costs V) (L : Laws K) where
     fits_from : (v k : ℕ) → Fits K G s v k → fits K G s v k ≡ true
     fits_from v k f = let same = same_from _ _ f.adds_up in grind (arith, nat_tests)
 
-    -- what a row with a via says
+    -- what a row that holds says: without a via v is the gateway at start, or costs none;
+    without_via : (v : ℕ) → row_holds K G g s v None ≡ true → ((v ≡ g) × ((s v).cost ≡ K.start)) ⊎ ((v ≡ g → ⊥) × ((s v).cost ≡ K.none))
+    without_via v e =
+        ⊎_elim
+        (λ b. inl (eqb-true v g b, same_says _ _ (rw b at e)))
+        (λ b. inr (eqb-false v g b, Order.none_top K L _ (rw b at e)))
+        (cases_Bool (eqb v g))
+
+    -- with one it is neither, and the via fits and leads back
     pub record ByVia (v k : ℕ) : Type 0 where
       pub not_gateway : v ≡ g → ⊥
       pub some : (s v).cost ≡ K.none → ⊥
@@ -55,8 +63,7 @@ module _ {V : Type 0} (K : Costs V) (L : Laws K) where
       by_via : (k : ℕ) → (s v).via ≡ Some k → ByVia v k → Known v
 
     known : (v : ℕ) (o : Option ℕ) → (s v).via ≡ o → row_holds K G g s v o ≡ true → Known v
-    known v None q e =
-        ⊎_elim (λ b. at_gateway q (eqb-true v g b) (same_says _ _ (rw b at e))) (λ b. cut q (eqb-false v g b) (Order.none_top K L _ (rw b at e))) (cases_Bool (eqb v g))
+    known v None q e = ⊎_elim (λ h. at_gateway q h.0 h.1) (λ h. cut q h.0 h.1) (without_via v e)
     known v (Some k) q e = by_via k q (with_via v k e)
 
     gateway_says : Known g → ((s g).cost ≡ K.start) × ((s g).via ≡ None)

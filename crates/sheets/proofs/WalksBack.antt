@@ -1,12 +1,13 @@
 -- Following vias back: what `leads_back` says, and that as many stations as there are suffice. Assumes nothing.
-use Rattle.std.proofs.Common.{◌≡◌, ℕ, zero, suc, ◌+◌, ◌<◌, Bool, true, false, ◌==◌, ◌||◌, eqb, ltb, List, [], ◌∷◌, length, Some, None, Option, refl, ap, ◌∙◌, subst, ⊎_elim, arith}
+use Rattle.std.proofs.Common.{◌≡◌, ℕ, zero, suc, ◌+◌, ◌<◌, ◌≤◌, Bool, true, false, cond, ◌==◌, eqb, ltb, List, [], ◌∷◌, length, Some, None, Option, refl, ap, ◌∙◌, subst, ⊎_elim, arith}
 use Rattle.std.specs.List.{AllByRecursion, IsDistinct, list_any}
-use Rattle.std.proofs.lemmas.Bool.{cases_Bool, cond-true, or_left, or_right, or_cases, eqb-true, eq-eqb, ne_eqb, ltb-true, lt-ltb}
+use Rattle.std.proofs.lemmas.Bool.{cases_Bool, cases_lt, cond-true, false_from_ne_true, or_left, or_right, or_cases, eqb-true, eq-eqb, ne_eqb, ltb-true, lt-ltb}
 use Rattle.std.proofs.lemmas.Map.Steps.{length-le_from_distinct_below}
 use Rattle.sheets.specs.Graph.{Graph}
 use Rattle.sheets.specs.Sheet.{Sheet, Back}
 use Rattle.sheets.specs.Verdict.{before, holds_of, leads_back}
 use Rattle.sheets.proofs.Consistency.{via_not_gateway}
+use Rattle.sheets.proofs.Counting.{count, count_more}
 use Rattle.sheets.proofs.Successors.{first_items}
 use Rattle.sheets.proofs.Within.{Within}
 
@@ -19,13 +20,23 @@ module _ {V : Type 0} (G : Graph V) (s : Sheet V) (g : ℕ) where
   before_says p None e = cc
   before_says p (Some k) e = ⊎_elim (λ b. (k, refl, ltb-true k G.lines b, rw b at e)) (λ b. let z : false ≡ true = rw b at e in cc) (cases_Bool (ltb k G.lines))
 
+  -- the station before another is a station
+  pub before_within : Within G → (o : Option ℕ) (u : ℕ) → before G o ≡ Some u → u < G.stations
+  before_within W o u e =
+      let via = before_says (eqb u) o (rw e (eq-eqb u u refl)) in
+      rw (eqb-true u (G.line via.0).from via.3) (W.from via.0 via.2)
+
+  -- the station before u, until the gateway is met
+  abbrev pub before_met : ℕ → Option ℕ
+  before_met u = cond (u == g) None (before G (s u).via)
+
   -- the gateway is among the first n stations that are met from o on
-  pub any_met : (n : ℕ) (o : Option ℕ) → list_any (λ u. u == g) (first_items (λ u. before G (s u).via) n o) ≡ holds_of (leads_back G s g n) o
+  pub any_met : (n : ℕ) (o : Option ℕ) → list_any (λ u. u == g) (first_items before_met n o) ≡ holds_of (leads_back G s g n) o
   unfolding leads_back
   any_met zero None = refl
   any_met zero (Some u) = refl
   any_met (suc n) None = refl
-  any_met (suc n) (Some u) = ap (λ b. u == g || b) (any_met n (before G (s u).via))
+  any_met (suc n) (Some u) = ⊎_elim (λ e. rw e refl) (λ e. rw e (any_met n (before G (s u).via))) (cases_Bool (u == g))
 
   pub back_from_leads : (n v : ℕ) → leads_back G s g n v ≡ true → (ks : List ℕ) × Back G s g v ks × (length ks < n)
   unfolding leads_back
@@ -47,7 +58,7 @@ module _ {V : Type 0} (G : Graph V) (s : Sheet V) (g : ℕ) where
   leads_from_back (suc n) (k ∷ ks) v b h =
       or_right (eqb v g) _ (ap (holds_of (leads_back G s g n)) (before_is (s v).via k b.0 b.1) ∙ leads_from_back n ks (G.line k).from b.2 (omega arith))
 
-  module _ (no-via : (s g).via ≡ None) (W : Within G) where
+  module _ (no-via : (s g).via ≡ None) where
     -- the way back from a station has one length,
     same_length : (ks js : List ℕ) (v : ℕ) → Back G s g v ks → Back G s g v js → length ks ≡ length js
     same_length [] [] v b c = refl
@@ -58,13 +69,41 @@ module _ {V : Type 0} (G : Graph V) (s : Sheet V) (g : ℕ) where
         let rest = same_length ks js (G.line k).from b.2 (subst (λ i. Back G s g (G.line i).from js) same c.2) in
         omega arith
 
-    -- so the stations that it meets differ,
+    -- and the walk goes no shorter way
+    not_sooner : (n : ℕ) (ks : List ℕ) (v : ℕ) → Back G s g v ks → n ≤ length ks → leads_back G s g n v ≡ false
+    not_sooner n ks v b h =
+        false_from_ne_true _ (λ e. let r = back_from_leads n v e in omega (arith, same_length ks r.0 v b r.1, r.2))
+
+  module _ (no-via : (s g).via ≡ None) (W : Within G) where
+    -- some station of the walk is m lines from the gateway,
+    on_the_way : (m : ℕ) (ks : List ℕ) (v : ℕ) → v < G.stations → Back G s g v ks → m ≤ length ks → (u : ℕ) × (u < G.stations) × ((js : List ℕ) × Back G s g u js × (length js ≡ m))
+    on_the_way m [] v h b l = (v, h, ([], b, omega arith))
+    on_the_way m (k ∷ ks) v h b l =
+        ⊎_elim
+        (λ less. on_the_way m ks (G.line k).from (W.from k b.1) b.2 (omega arith))
+        (λ all. (v, h, (k ∷ ks, b, omega arith)))
+        (cases_lt m (length (k ∷ ks)))
+
+    -- so with each line more, at least one station more leads back
+    pub met : (ks : List ℕ) (v : ℕ) → v < G.stations → Back G s g v ks → (m : ℕ) → m ≤ suc (length ks) → m ≤ count (leads_back G s g m) G.stations
+    met ks v h b zero l = omega arith
+    met ks v h b (suc m) l =
+        let u = on_the_way m ks v h b (omega arith) in
+        let js = u.2.0 in
+        let long : length js ≡ m = u.2.2 in
+        let more = count_more (leads_back G s g m) (leads_back G s g (suc m)) G.stations u.0 u.1
+        (λ w k e. let r = back_from_leads m w e in let short : length r.0 < m = r.2 in leads_from_back (suc m) r.0 w r.1 (omega arith))
+        (not_sooner no-via m js u.0 u.2.1 (omega arith))
+        (leads_from_back (suc m) js u.0 u.2.1 (omega arith)) in
+        omega (arith, met ks v h b m (omega arith))
+
+    -- The stations that a way back meets differ, since it has one length,
     abbrev stations_met : ℕ → List ℕ → List ℕ
     stations_met v [] = v ∷ []
     stations_met v (k ∷ ks) = v ∷ stations_met (G.line k).from ks
 
     differ : (us : List ℕ) (u : ℕ) → Back G s g u us → (ks : List ℕ) (v : ℕ) → Back G s g v ks → length ks < length us → eqb u v ≡ false
-    differ us u c ks v b h = ne_eqb u v (λ e. let same = same_length us ks v (subst (λ x. Back G s g x us) e c) b in omega arith)
+    differ us u c ks v b h = ne_eqb u v (λ e. let same = same_length no-via us ks v (subst (λ x. Back G s g x us) e c) b in omega arith)
 
     apart : (us : List ℕ) (u : ℕ) → Back G s g u us → (ks : List ℕ) (v : ℕ) → Back G s g v ks → length ks < length us → AllByRecursion (λ y. eqb u y ≡ false) (stations_met v ks)
     apart us u c [] v b h = (differ us u c [] v b h, tt)

@@ -1,21 +1,12 @@
-use Rattle.std.proofs.Common.{Bool, drop, rules, tests, ◌∙◌}
-use Rattle.std.proofs.lemmas.Iterator.Consumers.{YieldsList-from_first}
-use Rattle.std.proofs.lemmas.Iterator.Search.{all_from_yields_List}
-use Rattle.nets.specs.declared.line.Line.{Line}
-use Rattle.nets.specs.Listed.{blank_line}
-use Rattle.sheets.specs.Graph.{edge_of}
-use Rattle.sheets.specs.Given.{given_sheet}
-use Rattle.sheets.specs.Verdict.{relaxed}
-use Rattle.sheets.proofs.Tested.{all_elements}
+use Rattle.std.proofs.Common.{sym, ◌∙◌, rules}
+use Rattle.sheets.proofs.Tested.{all_none, all_more, all_fails}
 use Rattle.sheets.proofs.admitted.Admitted.lines_relaxed.Goals as goal
 
-pub returns : goal.returns
-returns g c =
-    let kind = g.K.CostKind in
-    let a = c.args.self.now in
-    let lines = (g.N.Net.meant a.net.now).lines in
-    let test : Line → Bool = λ l. relaxed kind.ops (given_sheet a) (edge_of kind.ops l) in
-    all_from_yields_List test c.all.new.self _ c.all.result c.all.ensures.ran
-    (YieldsList-from_first (λ l. l) (λ t. drop t.next (g.N.Net.meant t.net.now).lines) lines (search rules))
-    (λ l b q h. search (rules, tests))
-    ∙ all_elements test lines blank_line
+pub loop-k-init : goal.loop-k-init
+loop-k-init g c = all_none _
+
+pub returns-then-not-line_relaxed : goal.returns-then-not-line_relaxed
+returns-then-not-line_relaxed g c = sym (all_fails _ _ c.loop-k.k (search rules) (sym c.line_relaxed.ensures ∙ c.if-not-line_relaxed.true))
+
+pub loop-k-preserved : goal.loop-k-preserved
+loop-k-preserved g c = all_more _ c.loop-k.k c.loop-k.invariant (sym c.line_relaxed.ensures ∙ c.if-not-line_relaxed.false)
