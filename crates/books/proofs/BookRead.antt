@@ -29,6 +29,10 @@ pub passed_ok : (r : Result (List Line × ℕ) RecordFault) (u : Unit {0}) (q : 
 passed_ok (Ok x) u q a b = (x.0, ap (λ (n : ℕ). Ok (x.0, n)) (sym b))
 passed_ok (Err e) u q a b = cc
 
+pub passed_err : (r : Result (List Line × ℕ) RecordFault) (e : RecordFault) → Err e ≡ value_of (passed r) → r ≡ Err e
+passed_err (Ok x) e a = cc
+passed_err (Err d) e a = cc
+
 -- a head's lines have room in the table
 lines_room : (room : ℕ) (book : List ℕ) (p : ℕ) (x : ℕ × ℕ) → lines_at room book p ≡ Ok x → x.0 ≤ room
 lines_room room book p x e =

@@ -13,7 +13,7 @@ use nets::{Line, Lines, Net, Refusal};
 
 // The lengths stand beside the writing, since a book is measured before it is written: an output that is
 // too short stays as it was. One walk for both would need a trait of a sink with its laws and two
-// implementations, in place of three sums.
+// implementations, in place of these sums and the table of a number's lengths.
 
 // How many bytes a few numbers take.
 fn numbers_length(numbers: &[u32]) -> usize
